@@ -1,0 +1,4 @@
+pub mod Answering
+pub mod Editing
+pub mod Growing
+pub mod Reading
