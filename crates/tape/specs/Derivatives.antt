@@ -17,9 +17,12 @@ module _ {M : Type 0} (o : Operations M) where
   differential v t (Multiply a b) = o .plus (o .times (v a) (t b)) (o .times (v b) (t a))
   differential v t (Opposite a) = o .opposite (t a)
 
+  abbrev pub line-derivative : (vs : List M) → Line → List M → M
+  line-derivative vs l row = differential (at o vs) (at o row) l
+
   -- the formal derivative of every register along the direction d: vs are the values
   abbrev pub derivatives : (vs d : List M) → List Line → List M
-  derivatives vs d lines = grow (λ l row. differential (at o vs) (at o row) l) d lines
+  derivatives vs d lines = grow (line-derivative vs) d lines
 
   -- the second differential, where they change by d, by e, and by s where both act
   abbrev pub second-differential : (v d e s : ℕ → M) → Line → M
@@ -30,11 +33,13 @@ module _ {M : Type 0} (o : Operations M) where
       o .plus (o .plus (o .plus (o .times (v a) (s b)) (o .times (d a) (e b))) (o .times (e a) (d b))) (o .times (v b) (s a))
   second-differential v d e s (Opposite a) = o .opposite (s a)
 
+  abbrev pub line-second : (vs ds es : List M) → Line → List M → M
+  line-second vs ds es l row = second-differential (at o vs) (at o ds) (at o es) (at o row) l
+
   -- the second derivative of every register along d and e
   abbrev pub second-derivatives : (vs d e : List M) → List Line → List M
-  second-derivatives vs d e lines =
-      grow (λ l row. second-differential (at o vs) (at o (derivatives vs d lines)) (at o (derivatives vs e lines)) (at o row) l) (replicate (length d) (o .zero)) lines
+  second-derivatives vs d e lines = grow (line-second vs (derivatives vs d lines) (derivatives vs e lines)) (replicate (length d) (o .zero)) lines
 
   -- the tangents of all registers where each, a line's too, is moved by an entry of δ besides
   abbrev pub perturbed : (vs : List M) → Tape → (δ : List M) → List M
-  perturbed vs t δ = grow (λ l row. o .plus (at o δ (length row)) (differential (at o vs) (at o row) l)) (take (t .controls) δ) (t .lines)
+  perturbed vs t δ = grow (λ l row. o .plus (at o δ (length row)) (line-derivative vs l row)) (take (t .controls) δ) (t .lines)

@@ -18,9 +18,12 @@ module _ {M : Type 0} (o : Operations M) where
   applied v (Multiply a b) = o .times (v a) (v b)
   applied v (Opposite a) = o .opposite (v a)
 
+  abbrev pub line-value : Line → List M → M
+  line-value l row = applied (at o row) l
+
   -- the values of all registers
   abbrev pub values : (controls : List M) → List Line → List M
-  values controls lines = grow (λ l row. applied (at o row) l) controls lines
+  values controls lines = grow line-value controls lines
 
 -- the operations of a line when it is worked out, and when the backward walk passes it
 

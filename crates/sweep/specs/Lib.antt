@@ -1,0 +1,4 @@
+pub mod Refusals
+pub mod Forward
+pub mod Reverse
+pub mod Queries
