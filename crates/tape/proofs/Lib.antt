@@ -1,4 +1,5 @@
 pub mod Answering
+pub mod Determining
 pub mod Editing
 pub mod Growing
 pub mod Reading

@@ -68,6 +68,17 @@ module _ {M : Type 0} (o : Operations M) (bad : ℕ → Bool) where
       ap₂ (λ x y. o .plus (o .plus (o .plus (o .times (v a) (s b)) (o .times (d a) y)) (o .times x (d b))) (o .times (v b) (s a))) (h .0) (h .1)
   second-differential-agree v d e f s es (Opposite a) none = refl
 
+  -- the same of the second changes s
+  pub second-agree : (v d e s u : ℕ → M) → ((k : ℕ) → bad k ≡ false → s k ≡ u k) → (l : Line) → reads l bad ≡ false
+      → second-differential o v d e s l ≡ second-differential o v d e u l
+  second-agree v d e s u ss (Constant c) none = refl
+  second-agree v d e s u ss (Add a b) none = let h = both bad (λ k. s k ≡ u k) ss a b none in ap₂ (o .plus) (h .0) (h .1)
+  second-agree v d e s u ss (Subtract a b) none = let h = both bad (λ k. s k ≡ u k) ss a b none in ap₂ (λ x y. o .plus x (o .opposite y)) (h .0) (h .1)
+  second-agree v d e s u ss (Multiply a b) none =
+      let h = both bad (λ k. s k ≡ u k) ss a b none in
+      ap₂ (λ x y. o .plus (o .plus (o .plus (o .times (v a) y) (o .times (d a) (e b))) (o .times (e a) (d b))) (o .times (v b) x)) (h .0) (h .1)
+  second-agree v d e s u ss (Opposite a) none = ap (o .opposite) (ss a none)
+
 -- Two rows that agree below k agree wherever a line reads that reads below k.
 pub agree-below : {M : Type 0} (o : Operations M) (k : ℕ) (xs ys : List M) → take k xs ≡ take k ys → (i : ℕ) → leb k i ≡ false → at o xs i ≡ at o ys i
 agree-below o k xs ys e i low =
