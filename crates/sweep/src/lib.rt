@@ -5,6 +5,7 @@ pub mod filling;
 pub mod forward;
 pub mod reverse;
 pub mod rows;
+pub mod theorems;
 pub mod walking;
 
 pub use answers::Gradient;
@@ -12,4 +13,5 @@ pub use forward::slope;
 pub use forward::value;
 pub use reverse::bend;
 pub use reverse::gradient;
+pub use theorems::reverse_is_forward;
 pub use walking::backward;

@@ -12,5 +12,4 @@ pub fn rows_are_determined<K: Kind>()
     ensures values { λ _. ⌜ Determined (K·Kind .ops) (applied (K·Kind .ops)) ⌝ }
     ensures derivatives { λ _. ⌜ ((vs : List (K·Kind .Meaning)) → Determined (K·Kind .ops) (differential (K·Kind .ops) (at (K·Kind .ops) vs))) ⌝ }
     ensures second { λ _. ⌜ ((vs ds es : List (K·Kind .Meaning)) → Determined (K·Kind .ops) (second-differential (K·Kind .ops) (at (K·Kind .ops) vs) (at (K·Kind .ops) ds) (at (K·Kind .ops) es))) ⌝ }
-{
-}
+{}
