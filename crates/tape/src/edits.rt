@@ -2,10 +2,9 @@
 ghost use mathlib.Core.Path.{_≡_};
 ghost use Rattle.tape.specs.Refusals.{Answered, noticed, refuse-controls, refuse-reads, refuse-append, refuse-replace, refuse-remove};
 ghost use Rattle.tape.specs.Tapes.{Constant-fits};
-ghost use Rattle.tape.specs.Tables.{table-tape, table-valid, Blank, Appended, Replaced, Removed};
+ghost use Rattle.tape.specs.Tables.{table-tape, Blank, Appended, Replaced, Removed};
 use crate::lines::Line;
 use crate::refusals::Refusal;
-use crate::sheets::Sheet;
 use crate::tables::Table;
 
 // Why the line cannot stand at the register `own`, if it cannot. (Its constant is a number of 32 bits by its type.)
@@ -107,26 +106,5 @@ impl Table {
             lines,
             stale,
         })
-    }
-}
-
-pub impl Sheet for Table as TableSheet {
-    ghost tape = { table-tape };
-
-    ghost keeps = { table-valid };
-
-    fn controls(&self) -> usize {
-        self.controls
-    }
-
-    fn count(&self) -> usize {
-        self.count
-    }
-
-    fn line(&self, j: usize) -> Result<Line, Refusal> {
-        if j >= self.count {
-            return Err(Refusal::Unknown(j));
-        }
-        Ok(self.lines[j])
     }
 }

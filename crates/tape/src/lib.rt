@@ -4,11 +4,12 @@ pub mod laws;
 pub mod lines;
 pub mod refusals;
 pub mod sheets;
+pub mod table_sheet;
 pub mod tables;
 
-pub use edits::TableSheet;
 pub use laws::rows_are_determined;
 pub use lines::Line;
 pub use refusals::Refusal;
 pub use sheets::Sheet;
+pub use table_sheet::TableSheet;
 pub use tables::Table;

@@ -8,7 +8,7 @@ use Rattle.tape.specs.declared.lines.Line.the-variants.{Constant}
 use Rattle.tape.specs.Refusals.{refuse-line}
 use Rattle.tape.specs.Tables.{table-tape}
 use Rattle.tape.proofs.Answering.{accepted}
-use Rattle.tape.proofs.edits.TableSheet.line.Needs as need
+use Rattle.tape.proofs.table_sheet.TableSheet.line.Needs as need
 
 pub returns : need.returns
 returns c =
