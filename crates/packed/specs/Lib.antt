@@ -1,0 +1,4 @@
+pub mod Bits
+pub mod Formats
+pub mod Faults
+pub mod Looks
