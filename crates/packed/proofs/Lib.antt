@@ -1,3 +1,5 @@
 pub mod Numbers
 pub mod FieldLaws
 pub mod Looking
+pub mod Decoding
+pub mod Accepting

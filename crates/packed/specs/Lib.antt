@@ -2,3 +2,4 @@ pub mod Bits
 pub mod Formats
 pub mod Faults
 pub mod Looks
+pub mod Views

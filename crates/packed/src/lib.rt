@@ -2,7 +2,14 @@
 pub mod faults;
 mod fields;
 pub mod looks;
+pub mod opening;
+pub mod reading;
+pub mod views;
 
 pub use faults::FileFault;
 pub use faults::LineFault;
 pub use looks::file_fault;
+pub use opening::Opened;
+pub use reading::ViewSheet;
+pub use reading::open;
+pub use views::View;
