@@ -3,3 +3,4 @@ pub mod FieldLaws
 pub mod Looking
 pub mod Decoding
 pub mod Accepting
+pub mod Encoding

@@ -3,3 +3,4 @@ pub mod Formats
 pub mod Faults
 pub mod Looks
 pub mod Views
+pub mod Writing
