@@ -38,7 +38,7 @@ from-range (negsuc n) (p, q) = record { sfits = omega (arith, ints, p) }
 
 -- ---- lengths
 
-length-line-bits : (l : Line) → length (line-bits l) ≡ 35
+pub length-line-bits : (l : Line) → length (line-bits l) ≡ 35
 length-line-bits (Constant c) = simp (length-append, length-bits)
 length-line-bits (Add a b) = simp (length-append, length-bits)
 length-line-bits (Subtract a b) = simp (length-append, length-bits)
@@ -223,3 +223,14 @@ module _ (bytes : List ℕ) (p : Faultless bytes) where
         subst (λ k. Reads-below k (lines-in bytes m)) (sym is-n) (subst (λ k. Reads-below (field bytes 0 8) (lines-in bytes k)) (sym is-m) (valid-of .below)),
         subst (λ k. Constants-fit (lines-in bytes k)) (sym is-m) (valid-of .fit),
       )
+
+-- ---- how long a packed file is
+
+pub packed-room : (t : Tape) (bytes : List ℕ) → Packed t bytes → line-start (length (t .lines)) ≤ 8 * length bytes
+packed-room t bytes p =
+    let k = 8 * length bytes - length (tape-bits t) in
+    let e = sym (length-spread bytes) ∙ ap length (p .2) ∙ length-append (tape-bits t) (replicate k 0) in
+    omega (arith, e, length-tape-bits t)
+
+pub packed-length : (t : Tape) (bytes : List ℕ) → Packed t bytes → length bytes ≡ file-length (length (t .lines))
+packed-length t bytes p = let r = packed-room t bytes p in omega (arith, p .1, length-tape-bits t)

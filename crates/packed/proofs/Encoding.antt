@@ -2,7 +2,9 @@
 use Prim.Native.Nat.{ℕ, zero, suc, _+_, _-_, _*_, _/_, _%_, _^_, _<_, _≤_}
 use mathlib.Core.Path.{_≡_, refl, sym, ap, ap₂, _∙_, subst}
 use mathlib.Core.List.{List, [], _∷_, _++_}
+use mathlib.Core.Bool.{Bool, true, false}
 use native.Mathlib.Omega.{arith}
+use lib.Dec.{ltb}
 use lib.ListN.{length, getD, take, drop, set, replicate, length-append}
 use lib.Arith.{digits-lt}
 use lib.Bits.{bitAnd, bitOr}
@@ -13,12 +15,17 @@ use Rattle.std.proofs.shelf.Elements.{all-take}
 use lib.IntN.{pos}
 use Rattle.std.specs.Joined.{joined}
 use Rattle.tape.specs.Tapes.{Tape, line}
-use Rattle.packed.specs.Formats.{Packed, line-bits, tape-bits}
+use Rattle.packed.specs.Formats.{Packed, line-bits, tape-bits, file-length}
 use Rattle.tape.specs.declared.lines.Line.{Line}
 use Rattle.tape.specs.declared.lines.Line.the-variants.{Constant}
 use Rattle.packed.proofs.Decoding.{length-lines-bits}
+use Rattle.std.specs.declared.option.Option.the-variants.{None}
+use Rattle.std.specs.declared.result.Result.the-variants.{Ok, Err}
+use Rattle.std.proofs.shelf.Tests.{ltb-true, ltb-false}
+use Rattle.tape.specs.declared.refusals.Refusal.{Refusal}
+use Rattle.tape.specs.Refusals.{Answered, notice, plain, cause}
 use Rattle.packed.specs.Bits.{bits, number, spread}
-use Rattle.packed.specs.Writing.{written, Puts}
+use Rattle.packed.specs.Writing.{written, Puts, refuse-save}
 use Rattle.packed.specs.declared.cursors.Cursor.{Cursor}
 use Rattle.packed.proofs.Numbers.{bits-split, bits-join, bits-zero, length-bits}
 use Rattle.packed.proofs.FieldLaws.{spread-append, byte-at, all-bytes}
@@ -119,3 +126,27 @@ lines-more t j l within is =
     ap (λ x. joined line-bits (take j (t .lines)) ++ line-bits x) is
     ∙ joined-more line-bits [] (take j (t .lines)) (line t j)
     ∙ ap (joined line-bits) (sym (take-more (t .lines) j (Constant (pos 0)) within))
+
+-- ---- what `save` answers
+
+module _ (same : Type 0) (done : ℕ → Type 0) where
+  roomy : (short : Bool) (size : ℕ) → Answered (cause short (plain 2) None) (Ok size) same done → (short ≡ false) × done size
+  roomy true size h = absurd h
+  roomy false size h = (refl, h)
+
+  too-short : (short : Bool) (e : Refusal) → Answered (cause short (plain 2) None) (Err e) same done → (short ≡ true) × (notice e ≡ plain 2) × same
+  too-short true e h = (refl, h .0, h .1)
+  too-short false e h = absurd h
+
+  pub save-done : (t : Tape) (room size : ℕ) → Answered (refuse-save t room) (Ok size) same done → (file-length (length (t .lines)) ≤ room) × done size
+  save-done t room size h =
+      let k = file-length (length (t .lines)) in
+      let parts = roomy (ltb room k) size h in
+      (ltb-false room k (parts .0), parts .1)
+
+  pub save-declined : (t : Tape) (room : ℕ) (e : Refusal) → Answered (refuse-save t room) (Err e) same done
+      → (room < file-length (length (t .lines))) × (notice e ≡ plain 2) × same
+  save-declined t room e h =
+      let k = file-length (length (t .lines)) in
+      let parts = too-short (ltb room k) e h in
+      (ltb-true room k (parts .0), parts .1, parts .2)

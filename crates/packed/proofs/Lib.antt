@@ -4,3 +4,5 @@ pub mod Looking
 pub mod Decoding
 pub mod Accepting
 pub mod Encoding
+pub mod RoundTrips
+pub mod Findings

@@ -4,3 +4,5 @@ pub mod Faults
 pub mod Looks
 pub mod Views
 pub mod Writing
+pub mod Theorems
+pub mod Vectors
