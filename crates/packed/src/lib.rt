@@ -21,3 +21,6 @@ pub use reading::open;
 pub use saving::save;
 pub use theorems::copy_file;
 pub use views::View;
+
+#[cfg(test)]
+mod tests;
