@@ -2,3 +2,5 @@ pub mod Answering
 pub mod Editing
 pub mod Growing
 pub mod Reading
+pub mod Spreading
+pub mod Sweeping

@@ -5,3 +5,4 @@ pub mod Tables
 pub mod Rows
 pub mod Values
 pub mod Derivatives
+pub mod Marks
