@@ -90,10 +90,14 @@ module _ {K : Type 0} where
   Shows s out r out′ = Answered (refuse-show (s .tape) (length (s .row)) (length out)) r (out′ ≡ out) (λ _. out′ ≡ copied (s .tape .controls) (s .row) out)
 
   module _ {M : Type 0} (o : Operations M) (means : K → M) where
-    -- the lines at or below register k are worked out, and x is its number
-    pub record Was-asked (s : State K) (k : ℕ) (x : K) (worked : ℕ) (s′ : State K) : Type 0 where
+    -- the lines at or below register k are worked out
+    pub record Was-swept (s : State K) (k worked : ℕ) (s′ : State K) : Type 0 where
       pub tape : s′ .tape ≡ s .tape
       pub swept : Swept o means (s .tape) (reach (s .tape) k) (s .row) (s .marks) (s′ .row) (s′ .marks) worked
+
+    -- and then x is the number of register k
+    pub record Was-asked (s : State K) (k : ℕ) (x : K) (worked : ℕ) (s′ : State K) : Type 0 where
+      pub after : Was-swept s k worked s′
       pub number : means x ≡ at o (map means (s′ .row)) k
 
     abbrev pub Asks : State K → ℕ → Result (Answer K) Refusal → State K → Type 0

@@ -1,6 +1,7 @@
 pub mod Answering
 pub mod Editing
 pub mod Growing
+pub mod Marking
 pub mod Reading
 pub mod Spreading
 pub mod Sweeping

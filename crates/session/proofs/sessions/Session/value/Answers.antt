@@ -4,7 +4,7 @@ use native.Mathlib.Omega.{arith}
 use lib.ListN.{length, getD}
 use Rattle.std.proofs.shelf.Ways.{tells}
 use Rattle.std.specs.declared.option.Option.the-variants.{None}
-use Rattle.tape.specs.Marks.{refuse-register}
+use Rattle.tape.specs.Marks.{refuse-register, Recomputed}
 use Rattle.tape.specs.Tables.{table-tape}
 use Rattle.tape.proofs.Answering.{accepted, not-declined}
 use Rattle.tape.proofs.Reading.{read}
@@ -17,12 +17,11 @@ returns-in-Ok g c =
     let row = c .args .self .now .row .now in
     let after = c .recompute .last .row in
     let k = c .args .register in
-    let asked = not-declined _ _ _ _ (c .in-Ok .ensures tt) in
+    let asked = not-declined (refuse-register (table-tape t) (length row) k) (c .in-Ok .swept) (after ≡ row) (λ a. Recomputed (kind .ops) (kind .means) t k row after (a .0) (a .1)) (c .in-Ok .ensures tt) in
     let free : refuse-register (table-tape t) (length row) k ≡ None = asked .0 in
     let within : k < length row = grind (arith, tells) in
     let room : length after ≡ length row = asked .1 .swept .room in
     accepted _ _ _ _ free (record {
-      tape = asked .1 .tape;
-      swept = asked .1 .swept;
+      after = record { tape = asked .1 .tape; swept = asked .1 .swept };
       number = read (kind .means) after k _ (kind .ops .zero) (omega arith) (ap (getD after k) (c .index-self-register .is));
     })
