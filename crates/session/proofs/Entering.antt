@@ -19,6 +19,7 @@ use Rattle.tape.specs.Refusals.{Answered, Notice, naming, cause}
 use Rattle.tape.specs.Rows.{at}
 use Rattle.tape.specs.Tapes.{Valid, registers}
 use Rattle.tape.specs.Values.{values}
+use Rattle.tape.proofs.Reading.{read}
 use Rattle.session.specs.declared.calls.Call.{Call}
 use Rattle.session.specs.declared.calls.Call.the-variants.{Set, Add, Change, Drop, Value}
 use Rattle.session.specs.declared.sessions.Answer.{Answer}
@@ -158,4 +159,6 @@ module _ {K M : Type 0} (o : Operations M) (means : K → M) where
         swept-worth = ap (λ c. worth o c k) (sym (after-keeps .entered ∙ kept .entered)) ∙ worth-is o means after k (valid .below) (after-keeps .good) clear there
 
       pub right-answer : (k : ℕ) (x : K) (worked : ℕ) → Valid (s .tape) → refuse-register (b .tape) room k ≡ None → Was-asked o means s k x worked s′ → means x ≡ worth o b k
-      right-answer k x worked valid free done = done .number ∙ sym (swept-worth k worked valid free (done .after))
+      right-answer k x worked valid free done =
+          let within : k < length (s′ .row) = omega (arith, there k worked valid free (done .after), kept .good .fits, done .after .swept .room) in
+          read means (s′ .row) k x (o .zero) within (done .entry) ∙ sym (swept-worth k worked valid free (done .after))

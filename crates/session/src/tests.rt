@@ -13,24 +13,22 @@ fn only_stale_lines_are_worked_out() -> Result<(), Fail> {
         return check(false);
     };
     let mut session = Session::open(opening, &rest, &mut row);
-    check(session.add(Line::Multiply(0, 1)).is_ok())?;
-    check(session.add(Line::Multiply(3, 2)).is_ok())?;
+    check(session.add(Line::Multiply(0, 1)).is_ok() & session.add(Line::Multiply(3, 2)).is_ok())?;
     let Ok(first) = session.value(4) else {
         return check(false);
     };
-    check_eq(first.value.0, 24)?;
-    check_eq(first.worked, 2)?;
+    check_eq((first.value.0, first.worked), (24, 2))?;
     check(session.set(2, Ticks(7)).is_ok())?;
     let Ok(second) = session.value(4) else {
         return check(false);
     };
-    check_eq(second.value.0, 42)?;
-    check_eq(second.worked, 1)?;
+    check_eq((second.value.0, second.worked), (42, 1))?;
     check(session.set(0, Ticks(5)).is_ok())?;
     let Ok(third) = session.value(3) else {
         return check(false);
     };
-    check_eq(third.value.0, 15)?;
-    check_eq(third.worked, 1)?;
-    check_eq(session.waiting(), Some(4))
+    check_eq(
+        (third.value.0, third.worked, session.waiting()),
+        (15, 1, Some(4)),
+    )
 }
