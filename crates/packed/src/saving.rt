@@ -6,6 +6,7 @@ ghost use Rattle.tape.specs.Refusals.{Answered};
 ghost use Rattle.tape.specs.Tapes.{line};
 ghost use Rattle.packed.specs.Writing.{refuse-save, Saved};
 use crate::cursors::Cursor;
+use crate::writing::fill_byte;
 use crate::writing::put_bits;
 use crate::writing::put_line;
 use tape::Line;
@@ -32,6 +33,6 @@ pub fn save<S: Sheet>(sheet: &S, buf: &mut [u8]) -> Result<usize, Refusal>
     for j in 0..count {
         cursor = put_line(buf, cursor, sheet.line(j).unwrap());
     }
-    cursor = put_bits(buf, cursor, (8 - cursor.held) % 8, 0);
+    cursor = fill_byte(buf, cursor);
     Ok(cursor.at)
 }
