@@ -1,11 +1,9 @@
 -- What it means that no look finds a fault. Assumes nothing.
-use Prim.Native.Nat.{ℕ, zero, suc, _+_, _-_, _*_, _/_, _<_, _≤_}
+use Prim.Native.Nat.{ℕ, zero, suc, _+_, _-_, _*_, _<_, _≤_}
 use mathlib.Core.Path.{_≡_, refl, sym, ap, ap₂, _∙_}
-use mathlib.Core.Bool.{Bool, true, false, cond, _&&_, _||_}
 use mathlib.Core.Logic.{_⊎_, ⊎-elim}
 use mathlib.Core.List.{List, [], _∷_, _++_}
 use native.Mathlib.Omega.{arith}
-use lib.Dec.{leb, ltb, eqb}
 use lib.ListN.{length}
 use Rattle.std.specs.Joined.{joined}
 use Rattle.std.specs.Iters.{counting}
@@ -16,7 +14,7 @@ use Rattle.std.proofs.shelf.Ways.{tells}
 use Rattle.std.proofs.shelf.Tests.{cases-order}
 use Rattle.packed.specs.Bits.{field}
 use Rattle.packed.specs.Formats.{line-start, file-length}
-use Rattle.packed.specs.Looks.{Look, look, first-found, head-looks, line-looks, closing-looks, fault-of}
+use Rattle.packed.specs.Looks.{Look, first-found, head-looks, line-looks, closing-looks, fault-of}
 use Rattle.packed.specs.Faults.{Finding}
 
 -- ---- looks one after another

@@ -5,7 +5,10 @@ use Rattle.packed.proofs.Numbers.{length-bits}
 use Rattle.packed.proofs.writing.fill_byte.Needs as need
 
 pub put-bits-requires : need.put-bits-requires
-put-bits-requires c κs = record { narrow = omega arith; small = pow-pos _; near = omega arith; room = omega (arith, c .args .cursor .few) }
+put-bits-requires c κs =
+    let cursor = c .args .cursor in
+    let some = pow-pos ((8 - cursor .held) % 8) in
+    record { narrow = omega arith; small = omega arith; near = omega arith; room = omega (arith, cursor .few) }
 
 pub returns : need.returns
 returns c =
