@@ -3,6 +3,7 @@ mod file_replies;
 pub mod queries;
 pub mod replies;
 mod rows;
+mod session_replies;
 mod sheet_replies;
 
 pub use queries::Query;
