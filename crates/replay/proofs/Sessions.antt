@@ -6,7 +6,7 @@ use Prim.Native.Nat.{ℕ, _+_, _≤_, _<_}
 use native.Mathlib.Omega.{arith}
 use lib.ListN.{length, take}
 use Rattle.std.specs.declared.option.Option.the-variants.{None}
-use Rattle.std.specs.declared.result.Result.the-variants.{Ok}
+use Rattle.std.specs.declared.result.Result.{Result}
 use Rattle.std.proofs.shelf.Lists.{length-take-le, take-take}
 use Rattle.std.proofs.shelf.Ways.{tells}
 use Rattle.kind.specs.Kinds.{Laws, Operations}
@@ -23,10 +23,11 @@ use Rattle.sweep.specs.Forward.{given}
 use Rattle.sweep.specs.Queries.{Is-gradient}
 use Rattle.sweep.specs.Refusals.{refuse-backward, refuse-query}
 use Rattle.sweep.proofs.Gradients.{gradient-of-row, transposes-same}
+use Rattle.tape.specs.declared.refusals.Refusal.{Refusal}
 use Rattle.tape.specs.Marks.{refuse-register}
 use Rattle.tape.specs.Tapes.{Tape, Valid, registers}
 use Rattle.tape.specs.Values.{values}
-use Rattle.tape.proofs.Answering.{accepted, not-declined}
+use Rattle.tape.proofs.Answering.{answered-as}
 use Rattle.replay.specs.declared.queries.Query.the-variants as query
 use Rattle.replay.specs.declared.replies.Reply.the-variants as reply
 use Rattle.replay.specs.Answers.{Replied, value}
@@ -47,11 +48,10 @@ module _ {K M : Type 0} (o : Operations M) (means : K → M) (s s′ : State K) 
         lawful = tt;
       }
 
-  pub gradient-steps : (old new : List K) (a : Graded K) → refuse-backward (s .tape) (length (s .row)) (length old) k ≡ None → Was-graded o means s k old a s′ new
-      → Steps o means (call.Gradient k) s s′
-  gradient-steps old new a free graded =
-      let swept : Graded K → Type 0 = λ b. Was-swept o means s k (b .worked) s′ in
-      sweep-enters o means s s′ (call.Gradient k) (λ _ _. refl) valid None k (Ok a) (λ b. b .worked) swept (λ b d. d) (graded .asked .after)
+  pub gradient-enters : (old new : List K) (r : Result (Graded K) Refusal) → Grades o means s k old r s′ new → Steps o means (call.Gradient k) s s′
+  gradient-enters old new r h =
+      sweep-enters o means s s′ (call.Gradient k) (λ _ _. refl) valid (refuse-backward (s .tape) (length (s .row)) (length old) k) k r (λ a. a .worked) (λ a. Was-graded o means s k old a s′ new)
+      (λ a d. d .asked .after) (answered-as _ r _ _ _ (λ p. p .0) h)
 
   pub gradient-says : Laws o → Good o means s → (old new front : List K) (a : Graded K) → 1152 ≤ length old → length new ≡ length old → front ≡ take 128 new
       → refuse-backward (s .tape) (length (s .row)) (length old) k ≡ None → Was-graded o means s k old a s′ new
