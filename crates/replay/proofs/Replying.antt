@@ -21,10 +21,10 @@ use Rattle.packed.proofs.Decoding.{valid-of}
 use Rattle.packed.proofs.Looking.{faultless}
 use Rattle.sweep.specs.Forward.{Sloped, Valued, given}
 use Rattle.sweep.specs.Queries.{Bent, Graded, Is-bend, Is-gradient}
-use Rattle.sweep.specs.Refusals.{refuse-bend, refuse-gradient, refuse-query, refuse-slope, refuse-value}
+use Rattle.sweep.specs.Refusals.{refuse-bend, refuse-gradient, refuse-slope, refuse-value}
 use Rattle.sweep.specs.Reverse.{Counted}
 use Rattle.tape.specs.declared.refusals.Refusal.{Refusal}
-use Rattle.tape.specs.Refusals.{Notice, notice}
+use Rattle.tape.specs.Refusals.{Notice, notice, refuse-query}
 use Rattle.tape.specs.Rows.{unit}
 use Rattle.tape.specs.Tapes.{Tape, Valid, registers}
 use Rattle.replay.specs.declared.queries.Query.the-variants as query

@@ -21,10 +21,11 @@ use Rattle.session.specs.States.{Asks, State, Was-asked, Was-swept}
 use Rattle.session.proofs.Entering.{never-short, right-answer, sweep-enters, swept-values}
 use Rattle.sweep.specs.Forward.{given}
 use Rattle.sweep.specs.Queries.{Is-gradient}
-use Rattle.sweep.specs.Refusals.{refuse-backward, refuse-query}
+use Rattle.sweep.specs.Refusals.{refuse-backward}
 use Rattle.sweep.proofs.Gradients.{gradient-of-row, transposes-same}
 use Rattle.tape.specs.declared.refusals.Refusal.{Refusal}
 use Rattle.tape.specs.Marks.{refuse-register}
+use Rattle.tape.specs.Refusals.{refuse-query}
 use Rattle.tape.specs.Tapes.{Tape, Valid, registers}
 use Rattle.tape.specs.Values.{values}
 use Rattle.tape.proofs.Answering.{answered-as}

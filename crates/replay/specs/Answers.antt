@@ -16,9 +16,8 @@ use Rattle.kind.specs.Rows.{dot-product}
 use Rattle.packed.specs.Faults.{Finding, finding}
 use Rattle.packed.specs.Looks.{fault-of}
 use Rattle.sweep.specs.Forward.{given}
-use Rattle.sweep.specs.Refusals.{refuse-query}
 use Rattle.tape.specs.Derivatives.{derivatives, second-derivatives}
-use Rattle.tape.specs.Refusals.{Notice, notice}
+use Rattle.tape.specs.Refusals.{Notice, notice, refuse-query}
 use Rattle.tape.specs.Rows.{at, unit}
 use Rattle.tape.specs.Tapes.{Tape}
 use Rattle.tape.specs.Values.{backward-count, evaluation-count, values}

@@ -1,15 +1,11 @@
 -- Why a query is declined: there is no register r, or else a row is too short. A working row is full when it has an entry for
 -- each register; rows of controls, directions and bends need one for each control. Assumes nothing.
-use mathlib.Core.Bool.{Bool, _||_}
+use mathlib.Core.Bool.{_||_}
 use Prim.Native.Nat.{ℕ}
-use lib.Dec.{leb, ltb}
+use lib.Dec.{ltb}
 use Rattle.std.specs.declared.option.Option.{Option}
-use Rattle.std.specs.declared.option.Option.the-variants.{None}
-use Rattle.tape.specs.Refusals.{Notice, cause, naming, plain}
+use Rattle.tape.specs.Refusals.{Notice, refuse-query}
 use Rattle.tape.specs.Tapes.{Tape, registers}
-
-abbrev pub refuse-query : Tape → Bool → ℕ → Option Notice
-refuse-query t too-short r = cause (leb (registers t) r) (naming 5 r) (cause too-short (plain 2) None)
 
 abbrev pub refuse-value : Tape → (controls row r : ℕ) → Option Notice
 refuse-value t controls row r = refuse-query t (ltb controls (t .controls) || ltb row (registers t)) r

@@ -11,7 +11,7 @@ use Rattle.std.specs.declared.option.Option.the-variants.{Some, None}
 use Rattle.kind.specs.Kinds.{Operations}
 use Rattle.tape.specs.declared.tables.Table.{Table}
 use Rattle.tape.specs.Lines.{reads}
-use Rattle.tape.specs.Refusals.{Notice, plain, naming, cause}
+use Rattle.tape.specs.Refusals.{Notice, refuse-query}
 use Rattle.tape.specs.Rows.{at}
 use Rattle.tape.specs.Tables.{table-tape}
 use Rattle.tape.specs.Tapes.{Tape, registers, line}
@@ -65,4 +65,4 @@ Waiting t marks (Some k) = (j : ℕ) × (k ≡ t .controls + j) × (j < length (
 
 -- register r is asked for, of a tape whose registers have a row of so much room
 abbrev pub refuse-register : Tape → (room r : ℕ) → Option Notice
-refuse-register t room r = cause (leb (registers t) r) (naming 5 r) (cause (ltb room (registers t)) (plain 2) None)
+refuse-register t room r = refuse-query t (ltb room (registers t)) r

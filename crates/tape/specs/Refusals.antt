@@ -62,6 +62,10 @@ refuse-reads own (Subtract a b) = refuse-read own a (refuse-read own b None)
 refuse-reads own (Multiply a b) = refuse-read own a (refuse-read own b None)
 refuse-reads own (Opposite a) = refuse-read own a None
 
+-- register r is asked for, and some row is too short or none is
+abbrev pub refuse-query : Tape → (too-short : Bool) → (r : ℕ) → Option Notice
+refuse-query t too-short r = cause (leb (registers t) r) (naming 5 r) (cause too-short (plain 2) None)
+
 -- line j is asked for
 abbrev pub refuse-line : Tape → ℕ → Option Notice
 refuse-line t j = cause (leb (length (t .lines)) j) (naming 5 j) None
