@@ -3,3 +3,5 @@ pub mod Determining
 pub mod Editing
 pub mod Growing
 pub mod Reading
+pub mod Spreading
+pub mod Sweeping

@@ -6,3 +6,4 @@ pub mod Rows
 pub mod Values
 pub mod Derivatives
 pub mod Laws
+pub mod Marks

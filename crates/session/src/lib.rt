@@ -1,0 +1,8 @@
+// An editing session over a tape: controls are set, lines are added, changed and dropped, and only the lines that an edit
+// made stale are worked out again.
+pub mod openings;
+pub mod sessions;
+
+pub use openings::Opening;
+pub use sessions::Answer;
+pub use sessions::Session;
