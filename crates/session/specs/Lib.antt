@@ -1,3 +1,5 @@
 pub mod Rows
 pub mod Refusals
 pub mod States
+pub mod Books
+pub mod Runs

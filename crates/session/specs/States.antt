@@ -1,10 +1,10 @@
 -- A session's state, and what each call does to it. Assumes nothing.
 use mathlib.Core.Path.{_≡_}
 use mathlib.Core.Bool.{Bool, true, false}
-use mathlib.Core.List.{List, [], _∷_, _++_, map}
+use mathlib.Core.List.{List, [], _∷_, _++_}
 use Prim.Native.Nat.{ℕ, _-_}
 use denote.Ref.{now}
-use lib.ListN.{length, set, take, replicate}
+use lib.ListN.{length, getD, set, take, replicate}
 use Rattle.std.specs.declared.option.Option.{Option}
 use Rattle.std.specs.declared.result.Result.{Result}
 use Rattle.kind.specs.Kinds.{Operations}
@@ -12,7 +12,6 @@ use Rattle.tape.specs.declared.lines.Line.{Line}
 use Rattle.tape.specs.declared.refusals.Refusal.{Refusal}
 use Rattle.tape.specs.Marks.{Spread, Swept, Waiting, reach}
 use Rattle.tape.specs.Refusals.{Answered}
-use Rattle.tape.specs.Rows.{at}
 use Rattle.tape.specs.Tables.{table-tape}
 use Rattle.tape.specs.Tapes.{Tape, registers}
 use Rattle.session.specs.declared.sessions.Answer.{Answer}
@@ -90,11 +89,15 @@ module _ {K : Type 0} where
   Shows s out r out′ = Answered (refuse-show (s .tape) (length (s .row)) (length out)) r (out′ ≡ out) (λ _. out′ ≡ copied (s .tape .controls) (s .row) out)
 
   module _ {M : Type 0} (o : Operations M) (means : K → M) where
-    -- the lines at or below register k are worked out, and x is its number
-    pub record Was-asked (s : State K) (k : ℕ) (x : K) (worked : ℕ) (s′ : State K) : Type 0 where
+    -- the lines at or below register k are worked out
+    pub record Was-swept (s : State K) (k worked : ℕ) (s′ : State K) : Type 0 where
       pub tape : s′ .tape ≡ s .tape
       pub swept : Swept o means (s .tape) (reach (s .tape) k) (s .row) (s .marks) (s′ .row) (s′ .marks) worked
-      pub number : means x ≡ at o (map means (s′ .row)) k
+
+    -- and then x is the entry of register k
+    pub record Was-asked (s : State K) (k : ℕ) (x : K) (worked : ℕ) (s′ : State K) : Type 0 where
+      pub after : Was-swept s k worked s′
+      pub entry : x ≡ getD (s′ .row) k x
 
     abbrev pub Asks : State K → ℕ → Result (Answer K) Refusal → State K → Type 0
     Asks s k r s′ = Answered (refuse-value (s .tape) (length (s .row)) k) r (s′ ≡ s) (λ a. Was-asked s k (a .value) (a .worked) s′)

@@ -2,6 +2,7 @@
 ghost use mathlib.Core.Path.{_≡_};
 ghost use Rattle.session.specs.Rows.{copied};
 ghost use Rattle.session.specs.States.{state, Opened, Sets, Adds, Changes, Drops, Asks, Waits, Shows};
+use crate::openings::Opening;
 use kind::Kind;
 use tape::Line;
 use tape::Refusal;
@@ -10,7 +11,6 @@ use tape::Table;
 use tape::TableSheet;
 use tape::recompute;
 use tape::spread;
-use crate::openings::Opening;
 
 #[derive(Drop)]
 pub struct Session<'a, K: Kind> {

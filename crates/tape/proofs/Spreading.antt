@@ -9,12 +9,13 @@ use lib.Dec.{leb, eqb}
 use lib.IntN.{pos}
 use lib.ListN.{length, getD, take, set, length-take, length-set}
 use Rattle.std.proofs.shelf.Tests.{leb-true, leb-false, cases-lt}
-use Rattle.std.proofs.shelf.Lists.{getD-take, getD-set-same, getD-set-other}
+use Rattle.std.proofs.shelf.Lists.{getD-take, getD-set-same, getD-set-other, take-all}
 use Rattle.tape.specs.declared.lines.Line.{Line}
 use Rattle.tape.specs.declared.lines.Line.the-variants.{Constant}
 use Rattle.tape.specs.Lines.{reads, Below}
 use Rattle.tape.specs.Marks.{mark, stale-register, touched, Spread}
-use Rattle.tape.specs.Tapes.{nth, Reads-below}
+use Rattle.tape.specs.Tapes.{Tape, line, nth, Reads-below}
+use Rattle.tape.proofs.Growing.{same-to}
 use Rattle.tape.proofs.Reading.{reads-agree}
 
 -- a register is as stale as its line is marked
@@ -78,3 +79,29 @@ spread-next n q j lines marks now in-lines in-now below so-far = record {
 pub below-at : (n m i : ℕ) (lines : List Line) → m ≤ length lines → Reads-below n (take m lines) → i < m → Below (n + i) (nth lines i)
 below-at n m i lines fits below low =
     ap (λ l. reads l (leb (n + i))) (sym (getD-take m lines i (Constant (pos 0)) low)) ∙ below i (omega (arith, length-take m lines))
+
+-- the marks that a spread leaves are the only ones of their kind
+pub spread-once : (t : Tape) (q : ℕ) (marks us vs : List Bool) → Reads-below (t .controls) (t .lines) → Spread t q marks us → Spread t q marks vs → us ≡ vs
+spread-once t q marks us vs below a b =
+    sym (take-all (length marks) us (omega (arith, a .long)))
+    ∙ same-to (length marks) us vs false (omega (arith, a .long)) (omega (arith, b .long)) each
+    ∙ take-all (length marks) vs (omega (arith, b .long))
+  where
+    n : ℕ
+    n = t .controls
+
+    each : (i : ℕ) → i < length marks → take i us ≡ take i vs → mark us i ≡ mark vs i
+    each i h before =
+        ⊎-elim
+        (λ (there : i < length (t .lines)).
+        a .each i there
+        ∙ ap (λ m. mark marks i || m)
+        (reads-agree (leb (n + i)) (touched n q us) (touched n q vs)
+        (λ k low. ap (λ m. eqb k q || m) (stale-agree n k us vs
+        (λ j e.
+        let earlier : j < i = omega (arith, leb-false (n + i) k low) in
+        sym (getD-take i us j false earlier) ∙ ap (λ ms. mark ms j) before ∙ getD-take i vs j false earlier)))
+        (line t i) (below i there))
+        ∙ sym (b .each i there))
+        (λ (past : length (t .lines) ≤ i). a .past i past ∙ sym (b .past i past))
+        (cases-lt i (length (t .lines)))
