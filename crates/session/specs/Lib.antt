@@ -3,3 +3,4 @@ pub mod Refusals
 pub mod States
 pub mod Books
 pub mod Runs
+pub mod Queries

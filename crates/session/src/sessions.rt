@@ -14,8 +14,8 @@ use tape::spread;
 
 #[derive(Drop)]
 pub struct Session<'a, K: Kind> {
-    row: &'a mut [K],
-    table: Table,
+    pub(crate) row: &'a mut [K],
+    pub(crate) table: Table,
 }
 
 // A register's value, and how many lines were worked out for it.
