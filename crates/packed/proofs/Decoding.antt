@@ -5,10 +5,10 @@ use Prim.Native.Nat.{ℕ, zero, suc, _+_, _-_, _*_, _/_, _%_, _^_, _<_, _≤_}
 use native.Mathlib.Omega.{arith}
 use lib.Dec.{leb}
 use lib.IntN.{ℤ, pos, negsuc}
-use lib.ListN.{length, take, drop, getD, replicate, length-append, length-drop, length-replicate, take-append-drop}
+use lib.ListN.{length, take, drop, replicate, length-append, length-drop, length-replicate, take-append-drop}
 use lib.Signed.{_≤ℤ_}
 use mir.Syntax.{w32}
-use mir.Val.{SFits, ofZ, toZ}
+use mir.Val.{SFits, toZ}
 use mir.Facts.{fits-of-lt, sfits-toZ, ofZ-toZ}
 use Rattle.std.specs.Joined.{joined}
 use Rattle.std.specs.Iters.{counting}

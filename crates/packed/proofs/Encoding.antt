@@ -1,5 +1,5 @@
 -- What a write does to the bits so far. Assumes nothing.
-use Prim.Native.Nat.{ℕ, zero, suc, _+_, _-_, _*_, _/_, _%_, _^_, _<_, _≤_}
+use Prim.Native.Nat.{ℕ, _+_, _-_, _*_, _/_, _%_, _^_, _<_, _≤_}
 use mathlib.Core.Path.{_≡_, refl, sym, ap, ap₂, _∙_, subst}
 use mathlib.Core.List.{List, [], _∷_, _++_}
 use mathlib.Core.Bool.{Bool, true, false}
@@ -24,7 +24,7 @@ use Rattle.std.specs.declared.result.Result.the-variants.{Ok, Err}
 use Rattle.std.proofs.shelf.Tests.{ltb-true, ltb-false}
 use Rattle.tape.specs.declared.refusals.Refusal.{Refusal}
 use Rattle.tape.specs.Refusals.{Answered, notice, plain, cause}
-use Rattle.packed.specs.Bits.{bits, number, spread}
+use Rattle.packed.specs.Bits.{bits, spread}
 use Rattle.packed.specs.Writing.{written, Puts, refuse-save}
 use Rattle.packed.specs.declared.cursors.Cursor.{Cursor}
 use Rattle.packed.proofs.Numbers.{bits-split, bits-join, bits-zero, length-bits}
@@ -86,9 +86,6 @@ puts-then a b c p q r xs ys f g = record {
   count = omega (arith, f .count, g .count, length-append xs ys);
   rest = g .rest ∙ drop-further (q .at) (r .at) b a (omega (arith, f .count, g .count, q .few, r .few)) (f .rest);
 }
-
-pub puts-none : (a : List ℕ) (p : Cursor) → Puts a p a p []
-puts-none a p = record { put = sym (append-nil (written a p)); count = omega arith; rest = refl }
 
 pub puts-as : (a b : List ℕ) (p q : Cursor) (xs ys : List ℕ) → xs ≡ ys → Puts a p b q xs → Puts a p b q ys
 puts-as a b p q xs ys e f = subst (λ bs. Puts a p b q bs) e f

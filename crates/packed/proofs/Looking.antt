@@ -1,11 +1,9 @@
 -- What it means that no look finds a fault. Assumes nothing.
-use Prim.Native.Nat.{ℕ, zero, suc, _+_, _-_, _*_, _/_, _<_, _≤_}
+use Prim.Native.Nat.{ℕ, zero, suc, _+_, _-_, _*_, _<_, _≤_}
 use mathlib.Core.Path.{_≡_, refl, sym, ap, ap₂, _∙_}
-use mathlib.Core.Bool.{Bool, true, false, cond, _&&_, _||_}
 use mathlib.Core.Logic.{_⊎_, ⊎-elim}
 use mathlib.Core.List.{List, [], _∷_, _++_}
 use native.Mathlib.Omega.{arith}
-use lib.Dec.{leb, ltb, eqb}
 use lib.ListN.{length}
 use Rattle.std.specs.Joined.{joined}
 use Rattle.std.specs.Iters.{counting}
@@ -16,8 +14,8 @@ use Rattle.std.proofs.shelf.Ways.{tells}
 use Rattle.std.proofs.shelf.Tests.{cases-order}
 use Rattle.packed.specs.Bits.{field}
 use Rattle.packed.specs.Formats.{line-start, file-length}
-use Rattle.packed.specs.Looks.{Look, look, first-found, head-looks, line-looks, closing-looks, fault-of}
-use Rattle.packed.specs.Faults.{Finding, in-file}
+use Rattle.packed.specs.Looks.{Look, first-found, head-looks, line-looks, closing-looks, fault-of}
+use Rattle.packed.specs.Faults.{Finding}
 
 -- ---- looks one after another
 
@@ -43,39 +41,43 @@ module _ (each : ℕ → List Look) (rest : List Look) where
 -- ---- a file's looks: the head's, then each line's, then the closing bits'
 
 module _ (bytes : List ℕ) where
+  abbrev last : List Look
+  last = closing-looks bytes (line-start (field bytes 8 11))
+
+  abbrev past-head : List Look
+  past-head = joined (line-looks bytes (field bytes 0 8)) (counting 0 (field bytes 8 11)) ++ last
+
   -- the lines from j on, of m, decide
   abbrev pub lines-from : (controls j m : ℕ) → Option Finding
-  lines-from controls j m = fault-from (line-looks bytes controls) (closing-looks bytes) j (m - j)
+  lines-from controls j m = fault-from (line-looks bytes controls) last j (m - j)
 
   pub head-none : (controls lines : ℕ) → controls ≡ field bytes 0 8 → lines ≡ field bytes 8 11 → None ≡ first-found (head-looks bytes)
       → fault-of bytes ≡ lines-from controls 0 lines
   unfolding fault-of
   head-none controls lines n m none =
       let all : field bytes 8 11 ≡ lines - 0 = omega arith in
-      none-then (head-looks bytes) (joined (line-looks bytes (field bytes 0 8)) (counting 0 (field bytes 8 11)) ++ closing-looks bytes) (sym none)
-      ∙ ap₂ (λ n m. fault-from (line-looks bytes n) (closing-looks bytes) 0 m) (sym n) all
+      none-then (head-looks bytes) past-head (sym none) ∙ ap₂ (λ n m. fault-from (line-looks bytes n) last 0 m) (sym n) all
 
   pub head-some : (f : Finding) → Some f ≡ first-found (head-looks bytes) → Some f ≡ fault-of bytes
   unfolding fault-of
-  head-some f e = sym (some-then (head-looks bytes) (joined (line-looks bytes (field bytes 0 8)) (counting 0 (field bytes 8 11)) ++ closing-looks bytes) f (sym e))
+  head-some f e = sym (some-then (head-looks bytes) past-head f (sym e))
 
   pub line-none : (controls j m : ℕ) → j < m → None ≡ first-found (line-looks bytes controls j) → lines-from controls j m ≡ lines-from controls (j + 1) m
   line-none controls j m h e =
+      let each = line-looks bytes controls in
       let left : m - j ≡ suc (m - (j + 1)) = omega arith in
-      ap (fault-from (line-looks bytes controls) (closing-looks bytes) j) left ∙ one-none (line-looks bytes controls) (closing-looks bytes) j (m - (j + 1)) (sym e)
+      ap (fault-from each last j) left ∙ one-none each last j (m - (j + 1)) (sym e)
 
   pub line-some : (controls j m : ℕ) (f : Finding) → j < m → Some f ≡ first-found (line-looks bytes controls j) → lines-from controls j m ≡ Some f
   line-some controls j m f h e =
+      let each = line-looks bytes controls in
       let left : m - j ≡ suc (m - (j + 1)) = omega arith in
-      ap (fault-from (line-looks bytes controls) (closing-looks bytes) j) left ∙ one-some (line-looks bytes controls) (closing-looks bytes) j (m - (j + 1)) f (sym e)
+      ap (fault-from each last j) left ∙ one-some each last j (m - (j + 1)) f (sym e)
 
-  pub lines-end : (controls j m : ℕ) → m ≤ j → m ≡ field bytes 8 11
-      → lines-from controls j m
-      ≡ cond (ltb 0 (field bytes (line-start m) (8 * length bytes - line-start m))) (Some (in-file 8 (line-start m))) None
+  pub lines-end : (controls j m : ℕ) → m ≤ j → m ≡ field bytes 8 11 → lines-from controls j m ≡ first-found (closing-looks bytes (line-start m))
   lines-end controls j m past is =
       let none : m - j ≡ 0 = omega arith in
-      ap (fault-from (line-looks bytes controls) (closing-looks bytes) j) none
-      ∙ ap (λ k. cond (ltb 0 (field bytes (line-start k) (8 * length bytes - line-start k))) (Some (in-file 8 (line-start k))) None) (sym is)
+      ap (fault-from (line-looks bytes controls) last j) none ∙ ap (λ k. first-found (closing-looks bytes (line-start k))) (sym is)
 
 -- ---- a file whose head passes
 
@@ -133,8 +135,8 @@ unfolding fault-of
 faultless bytes e =
     let each = line-looks bytes (field bytes 0 8) in
     let lines = joined each (counting 0 (field bytes 8 11)) in
-    let parts = none-both (head-looks bytes) (lines ++ closing-looks bytes) e in
-    let rest = none-both lines (closing-looks bytes) (parts .1) in
+    let parts = none-both (head-looks bytes) (lines ++ closing-looks bytes (line-start (field bytes 8 11))) e in
+    let rest = none-both lines (closing-looks bytes (line-start (field bytes 8 11))) (parts .1) in
     let last = rest .1 in
     record {
       headed = head-passes bytes (parts .0);
@@ -169,6 +171,6 @@ clear bytes p =
     let each = line-looks bytes (field bytes 0 8) in
     let lines = joined each (counting 0 (field bytes 8 11)) in
     let last = p .closing in
-    none-then (head-looks bytes) (lines ++ closing-looks bytes) (head-clear bytes (p .headed))
-    ∙ none-then lines (closing-looks bytes) (each-clear each 0 (field bytes 8 11) (λ j low high. line-clear bytes (field bytes 0 8) j (p .passing j (omega arith))))
+    none-then (head-looks bytes) (lines ++ closing-looks bytes (line-start (field bytes 8 11))) (head-clear bytes (p .headed))
+    ∙ none-then lines (closing-looks bytes (line-start (field bytes 8 11))) (each-clear each 0 (field bytes 8 11) (λ j low high. line-clear bytes (field bytes 0 8) j (p .passing j (omega arith))))
     ∙ grind (arith, tells)

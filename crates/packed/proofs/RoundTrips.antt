@@ -1,30 +1,29 @@
 -- A tape saved and read is that tape, and it has one file. Assumes nothing.
-use Prim.Native.Nat.{ℕ, zero, suc, _+_, _-_, _*_, _/_, _^_, _<_, _≤_}
-use mathlib.Core.Path.{_≡_, refl, sym, ap, ap₂, _∙_, subst}
-use mathlib.Core.List.{List, [], _∷_, _++_, map}
+use Prim.Native.Nat.{ℕ, _+_, _-_, _*_, _^_, _<_, _≤_}
+use mathlib.Core.Path.{_≡_, refl, sym, ap, ap₂, _∙_}
+use mathlib.Core.List.{List, [], _∷_, _++_}
 use native.Mathlib.Omega.{arith}
 use lib.Dec.{leb}
 use lib.IntN.{pos}
-use lib.ListN.{length, take, drop, getD, replicate, length-append, length-replicate, take-append-drop}
+use lib.ListN.{length, take, drop, replicate, length-append, length-replicate, take-append-drop}
 use mir.Syntax.{w32}
-use mir.Val.{SFits, ofZ, toZ}
+use mir.Val.{ofZ, toZ}
 use mir.Facts.{fits-ofZ, fits-lt-pow, toZ-ofZ}
 use Rattle.std.specs.Joined.{joined}
-use Rattle.std.specs.Iters.{counting}
 use Rattle.std.specs.declared.option.Option.the-variants.{None}
 use Rattle.std.proofs.shelf.Tests.{or-parts, leb-false}
-use Rattle.std.proofs.shelf.Lists.{append-assoc, take-at, drop-at, take-all, drop-more, length-take-le, ext-getD, append-nil}
+use Rattle.std.proofs.shelf.Lists.{append-assoc, take-at, drop-at, take-all, drop-more, length-take-le, ext-getD}
 use Rattle.packed.specs.Bits.{bits, number, spread, field}
-use Rattle.tape.specs.Lines.{Below, constant}
-use Rattle.tape.specs.Tapes.{Tape, Constant-fits, line, Valid}
+use Rattle.tape.specs.Lines.{Below}
+use Rattle.tape.specs.Tapes.{Tape, line, Valid}
 use Rattle.packed.specs.Formats.{line-bits, tape-bits, Packed, line-of, line-start, file-length, line-at, tape-of}
 use Rattle.packed.specs.Looks.{fault-of}
 use Rattle.tape.specs.declared.lines.Line.{Line}
 use Rattle.tape.specs.declared.lines.Line.the-variants.{Constant, Add, Subtract, Multiply, Opposite}
 use Rattle.packed.proofs.Numbers.{length-bits, number-bits-is, number-zeros}
 use Rattle.packed.proofs.FieldLaws.{same-bytes, all-bytes}
-use Rattle.packed.proofs.Looking.{Headed, Passing, Faultless, clear}
-use Rattle.packed.proofs.Decoding.{Sound, from-range, length-line-bits, length-lines-bits, length-tape-bits, packed-length, packed-room, length-lines-in, nth-line-in}
+use Rattle.packed.proofs.Looking.{Passing, Faultless, clear}
+use Rattle.packed.proofs.Decoding.{Sound, from-range, length-lines-bits, length-tape-bits, packed-length, packed-room, length-lines-in, nth-line-in}
 
 -- ---- one file
 

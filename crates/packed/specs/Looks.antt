@@ -51,14 +51,15 @@ line-looks bytes controls j =
     ∷ (look (eqb kind 4 && ltb 0 second) (in-line 9 j (at + 19))
     ∷ [])))
 
--- at the bits past the last line
-abbrev pub closing-looks : List ℕ → List Look
-closing-looks bytes =
-    let end = line-start (field bytes 8 11) in
-    look (ltb 0 (field bytes end (8 * length bytes - end))) (in-file 8 end) ∷ []
+-- at the bits from `end` on, where the last line ends
+abbrev pub closing-looks : List ℕ → (end : ℕ) → List Look
+closing-looks bytes end = look (ltb 0 (field bytes end (8 * length bytes - end))) (in-file 8 end) ∷ []
 
 abbrev pub looks : List ℕ → List Look
-looks bytes = head-looks bytes ++ (joined (line-looks bytes (field bytes 0 8)) (counting 0 (field bytes 8 11)) ++ closing-looks bytes)
+looks bytes =
+    let controls = field bytes 0 8 in
+    let lines = field bytes 8 11 in
+    head-looks bytes ++ (joined (line-looks bytes controls) (counting 0 lines) ++ closing-looks bytes (line-start lines))
 
 -- what is wrong with a file, if anything is
 unfoldable pub fault-of : List ℕ → Option Finding

@@ -1,10 +1,10 @@
 // What the reader looks for, in its order.
 ghost use mathlib.Core.Path.{_≡_};
-ghost use Prim.Native.Nat.{_+_, _*_, _<_, _≤_};
+ghost use Prim.Native.Nat.{_+_, _*_, _^_, _<_, _≤_};
 ghost use lib.ListN.{length};
 ghost use Rattle.packed.specs.Formats.{line-start};
 ghost use Rattle.packed.specs.Faults.{found};
-ghost use Rattle.packed.specs.Looks.{first-found, head-looks, line-looks, fault-of};
+ghost use Rattle.packed.specs.Looks.{first-found, head-looks, line-looks, closing-looks, fault-of};
 use crate::faults::FileFault;
 use crate::faults::LineFault;
 use crate::fields::read_field;
@@ -64,6 +64,18 @@ fn line_fault(bytes: &[u8], controls: usize, j: usize) -> Option<FileFault>
     None
 }
 
+// The bits past the last line, fewer than eight.
+fn closing_fault(bytes: &[u8], end: usize) -> Option<FileFault>
+    requires few { ⌜ end ≤ 8 * length (now bytes) ⌝ ∗ ⌜ 8 * length (now bytes) < end + 8 ⌝ }
+    requires near { ⌜ end < 2 ^ 16 ⌝ }
+    ensures { λ r. ⌜ found r ≡ first-found (closing-looks (now (bytes .entry)) end) ⌝ }
+{
+    if read_field(bytes, end, 8 * bytes.len() - end) > 0 {
+        return Some(FileFault::Surplus(end));
+    }
+    None
+}
+
 // What is wrong with a file, if anything is.
 pub fn file_fault(bytes: &[u8]) -> Option<FileFault>
     ensures { λ r. ⌜ found r ≡ fault-of (now (bytes .entry)) ⌝ }
@@ -78,9 +90,5 @@ pub fn file_fault(bytes: &[u8]) -> Option<FileFault>
             return Some(fault);
         }
     }
-    let end = 19 + 35 * lines;
-    if read_field(bytes, end, 8 * bytes.len() - end) > 0 {
-        return Some(FileFault::Surplus(end));
-    }
-    None
+    closing_fault(bytes, 19 + 35 * lines)
 }

@@ -1,14 +1,12 @@
 // The writer.
 ghost use mathlib.Core.Path.{_≡_};
-ghost use Prim.Native.Nat.{_<_};
 ghost use lib.ListN.{length};
 ghost use Rattle.tape.specs.Refusals.{Answered};
-ghost use Rattle.tape.specs.Tapes.{line};
 ghost use Rattle.packed.specs.Writing.{refuse-save, Saved};
 use crate::cursors::Cursor;
+use crate::writing::fill_byte;
 use crate::writing::put_bits;
 use crate::writing::put_line;
-use tape::Line;
 use tape::Refusal;
 use tape::Sheet;
 
@@ -32,6 +30,6 @@ pub fn save<S: Sheet>(sheet: &S, buf: &mut [u8]) -> Result<usize, Refusal>
     for j in 0..count {
         cursor = put_line(buf, cursor, sheet.line(j).unwrap());
     }
-    cursor = put_bits(buf, cursor, (8 - cursor.held) % 8, 0);
+    cursor = fill_byte(buf, cursor);
     Ok(cursor.at)
 }

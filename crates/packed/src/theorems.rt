@@ -1,5 +1,4 @@
 // What the packed file is for, on the contracts of calls.
-ghost use mathlib.Core.Path.{_≡_};
 ghost use Rattle.packed.specs.Theorems.{Reads-back, Only-files, One-file, One-tape, One-fault, Copied};
 ghost use Rattle.packed.specs.Vectors.{Two-products-packed};
 use crate::copying::CopyFault;

@@ -1,7 +1,7 @@
 // Bits into a buffer, the most significant first.
 ghost use mathlib.Core.Path.{_≡_};
 ghost use mathlib.Core.List.{_++_};
-ghost use Prim.Native.Nat.{_+_, _*_, _^_, _<_, _≤_};
+ghost use Prim.Native.Nat.{_+_, _-_, _*_, _%_, _^_, _<_, _≤_};
 ghost use lib.ListN.{length};
 ghost use Rattle.packed.specs.Bits.{bits};
 ghost use Rattle.packed.specs.Formats.{line-bits};
@@ -60,4 +60,14 @@ pub(crate) fn put_line(buf: &mut [u8], cursor: Cursor, line: Line) -> Cursor
     let (kind, word) = line_word(line);
     let cursor = put_bits(buf, cursor, 3, kind);
     put_bits(buf, cursor, 32, word)
+}
+
+// Writes zeros to the end of the byte.
+pub(crate) fn fill_byte(buf: &mut [u8], cursor: Cursor) -> Cursor
+    requires near { ⌜ cursor .at < 2 ^ 13 ⌝ }
+    requires room { ⌜ 8 * cursor .at + cursor .held ≤ 8 * length (now buf) ⌝ }
+    ensures zeros { λ r. ⌜ Puts (now (buf .entry)) cursor (now (buf .exit)) r (bits ((8 - cursor .held) % 8) 0) ⌝ }
+    ensures whole { λ r. ⌜ r .held ≡ 0 ⌝ }
+{
+    put_bits(buf, cursor, (8 - cursor.held) % 8, 0)
 }

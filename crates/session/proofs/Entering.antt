@@ -25,7 +25,7 @@ use Rattle.session.specs.declared.calls.Call.the-variants.{Set, Add, Change, D
 use Rattle.session.specs.declared.sessions.Answer.{Answer}
 use Rattle.session.specs.Books.{Book, blank, feed, unless, worth}
 use Rattle.session.specs.Refusals.{refuse-open, refuse-set, refuse-add, refuse-change, refuse-value}
-use Rattle.session.specs.Rows.{shared, copied}
+use Rattle.session.specs.Rows.{shared}
 use Rattle.session.specs.Runs.{book, Good, Keeps}
 use Rattle.session.specs.States.{State, Opened, Sets, Adds, Changes, Drops, Asks, Was-swept, Was-asked}
 use Rattle.session.proofs.Keeping.{state-by, arrives, by-table, set-keeps, add-keeps, change-keeps, drop-keeps, sweep-keeps}

@@ -19,7 +19,7 @@ use Rattle.tape.specs.declared.lines.Line.{Line}
 use Rattle.tape.specs.declared.lines.Line.the-variants.{Constant}
 use Rattle.tape.specs.declared.refusals.Refusal.{Refusal}
 use Rattle.tape.specs.Lines.{reads}
-use Rattle.tape.specs.Marks.{mark, stale-register, touched, Standing, Swept, reach}
+use Rattle.tape.specs.Marks.{mark, stale-register, touched, Not-stale, Swept, count-to}
 use Rattle.tape.specs.Refusals.{Answered, Notice}
 use Rattle.tape.specs.Rows.{at}
 use Rattle.tape.specs.Tapes.{Tape, line, nth, registers, Reads-below}
@@ -220,7 +220,7 @@ module _ {K M : Type 0} (o : Operations M) (means : K → M) where
       n = s .tape .controls
 
       m : ℕ
-      m = reach (s .tape) r
+      m = count-to (s .tape) r
 
       swept : Swept o means (s .tape) m (s .row) (s .marks) (s′ .row) (s′ .marks) worked
       swept = done .swept
@@ -231,10 +231,10 @@ module _ {K M : Type 0} (o : Operations M) (means : K → M) where
           (λ (high : m ≤ j). absurd (true≢false (sym marked ∙ sym (swept .above j high) ∙ clean)))
           (cases-lt j m)
 
-      same : (q : ℕ) → Standing (s .tape) m (s .marks) q → at o (map means (s′ .row)) q ≡ at o (map means (s .row)) q
+      same : (q : ℕ) → Not-stale (s .tape) m (s .marks) q → at o (map means (s′ .row)) q ≡ at o (map means (s .row)) q
       same q stands = number-kept (s .row) (s′ .row) q (swept .room) (λ d. swept .kept q d stands)
 
-      standing : (q : ℕ) → stale-register n (s .marks) q ≡ false → Standing (s .tape) m (s .marks) q
+      standing : (q : ℕ) → stale-register n (s .marks) q ≡ false → Not-stale (s .tape) m (s .marks) q
       standing q f i _ e = sym (stale-at n i (s .marks)) ∙ ap (stale-register n (s .marks)) (sym e) ∙ f
 
       fewer : (i : ℕ) → mark (s .marks) i ≡ false → mark (s′ .marks) i ≡ false

@@ -1,5 +1,5 @@
 -- A session in order, with no stale line up to a register, holds the straight-line values up to it. Assumes nothing.
-use mathlib.Core.Path.{_≡_, refl, sym, ap, subst, _∙_}
+use mathlib.Core.Path.{_≡_, sym, ap, subst, _∙_}
 use mathlib.Core.Bool.{false}
 use mathlib.Core.List.{List, map}
 use Prim.Native.Nat.{ℕ, _+_, _-_, _<_, _≤_}
@@ -7,7 +7,7 @@ use native.Mathlib.Decide.{decLe}
 use native.Mathlib.Omega.{arith}
 use lib.Dec.{leb}
 use lib.IntN.{pos}
-use lib.ListN.{length, getD, take}
+use lib.ListN.{length, take}
 use Rattle.std.proofs.shelf.Lists.{getD-take, take-map, take-take, length-map, length-take-le}
 use Rattle.kind.specs.Kinds.{Operations}
 use Rattle.tape.specs.declared.lines.Line.{Line}

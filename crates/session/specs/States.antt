@@ -10,7 +10,7 @@ use Rattle.std.specs.declared.result.Result.{Result}
 use Rattle.kind.specs.Kinds.{Operations}
 use Rattle.tape.specs.declared.lines.Line.{Line}
 use Rattle.tape.specs.declared.refusals.Refusal.{Refusal}
-use Rattle.tape.specs.Marks.{Spread, Swept, Waiting, reach}
+use Rattle.tape.specs.Marks.{Spread, Swept, Waiting, count-to}
 use Rattle.tape.specs.Refusals.{Answered}
 use Rattle.tape.specs.Tables.{table-tape}
 use Rattle.tape.specs.Tapes.{Tape, registers}
@@ -92,7 +92,7 @@ module _ {K : Type 0} where
     -- the lines at or below register k are worked out
     pub record Was-swept (s : State K) (k worked : ℕ) (s′ : State K) : Type 0 where
       pub tape : s′ .tape ≡ s .tape
-      pub swept : Swept o means (s .tape) (reach (s .tape) k) (s .row) (s .marks) (s′ .row) (s′ .marks) worked
+      pub swept : Swept o means (s .tape) (count-to (s .tape) k) (s .row) (s .marks) (s′ .row) (s′ .marks) worked
 
     -- and then x is the entry of register k
     pub record Was-asked (s : State K) (k : ℕ) (x : K) (worked : ℕ) (s′ : State K) : Type 0 where

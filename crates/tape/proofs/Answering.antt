@@ -1,5 +1,5 @@
 -- An answer by the refusal table, made and used. Assumes nothing.
-use mathlib.Core.Path.{_≡_, refl, sym, subst}
+use mathlib.Core.Path.{_≡_, refl, sym, ap, subst}
 use Rattle.std.specs.declared.option.Option.{Option}
 use Rattle.std.specs.declared.option.Option.the-variants.{Some, None}
 use Rattle.std.specs.declared.result.Result.{Result}
@@ -22,3 +22,8 @@ answered P (Some w) (Ok v) declines does h = absurd h
 answered P (Some w) (Err e) declines does h = subst (λ x. P (Some x) (Err e)) (h .0) (declines e (h .1))
 answered P None (Ok v) declines does h = does v refl h
 answered P None (Err e) declines does h = absurd h
+
+-- a call that was declined says why
+pub why-declined : {R : Type 0} (why : Option Notice) (e : Refusal) (same : Type 0) (done : R → Type 0) → Answered why (Err e) same done → why ≡ Some (notice e)
+why-declined (Some w) e same done h = ap Some (sym (h .0))
+why-declined None e same done h = absurd h

@@ -7,7 +7,7 @@ use Prim.Native.Nat.{ℕ, _+_, _-_, _<_, _≤_}
 use native.Mathlib.Omega.{arith}
 use lib.Dec.{leb, eqb}
 use lib.IntN.{pos}
-use lib.ListN.{length, getD, take, set, length-take, length-set}
+use lib.ListN.{length, take, set, length-take, length-set}
 use Rattle.std.proofs.shelf.Tests.{leb-true, leb-false, cases-lt}
 use Rattle.std.proofs.shelf.Lists.{getD-take, getD-set-same, getD-set-other, take-all}
 use Rattle.tape.specs.declared.lines.Line.{Line}

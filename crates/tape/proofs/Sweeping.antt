@@ -1,12 +1,12 @@
 -- How stale lines are worked out, line by line. Assumes nothing.
-use mathlib.Core.Path.{_≡_, refl, sym, ap, subst, _∙_}
+use mathlib.Core.Path.{_≡_, sym, ap, subst, _∙_}
 use mathlib.Core.Bool.{Bool, true, false}
 use mathlib.Core.Logic.{⊎-elim, _≢_}
 use mathlib.Core.List.{List, map}
 use Prim.Native.Nat.{ℕ, _+_, _<_, _≤_}
 use native.Mathlib.Omega.{arith}
 use lib.Dec.{leb}
-use lib.ListN.{length, getD, set, length-map, length-set}
+use lib.ListN.{length, set, length-map, length-set}
 use Rattle.std.proofs.shelf.Tests.{leb-false, cases-lt, true≢false}
 use Rattle.std.proofs.shelf.Lists.{getD-set-same, getD-set-other, map-set}
 use Rattle.std.proofs.shelf.Sums.{countBy-more-yes, countBy-more-no}

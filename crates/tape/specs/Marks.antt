@@ -36,17 +36,17 @@ pub record Spread (t : Tape) (q : ℕ) (marks marks′ : List Bool) : Type 0 whe
   pub past : (j : ℕ) → length (t .lines) ≤ j → mark marks′ j ≡ mark marks j
 
 -- how many lines stand at or below register r
-abbrev pub reach : Tape → ℕ → ℕ
-reach t r = r + 1 - t .controls
+abbrev pub count-to : Tape → ℕ → ℕ
+count-to t r = r + 1 - t .controls
 
 -- register k is that of no marked line among the first m
-abbrev pub Standing : Tape → (m : ℕ) → List Bool → ℕ → Type 0
-Standing t m marks k = (j : ℕ) → j < m → k ≡ t .controls + j → mark marks j ≡ false
+abbrev pub Not-stale : Tape → (m : ℕ) → List Bool → ℕ → Type 0
+Not-stale t m marks k = (j : ℕ) → j < m → k ≡ t .controls + j → mark marks j ≡ false
 
 -- each marked line among the first m is worked out from the row after, and its mark cleared; nothing else changes
 pub record Swept {K M : Type 0} (o : Operations M) (means : K → M) (t : Tape) (m : ℕ) (row : List K) (marks : List Bool) (row′ : List K) (marks′ : List Bool) (worked : ℕ) : Type 0 where
   pub done : (j : ℕ) → j < m → mark marks j ≡ true → at o (map means row′) (t .controls + j) ≡ applied o (at o (map means row′)) (line t j)
-  pub kept : (k : ℕ) (d : K) → Standing t m marks k → getD row′ k d ≡ getD row k d
+  pub kept : (k : ℕ) (d : K) → Not-stale t m marks k → getD row′ k d ≡ getD row k d
   pub room : length row′ ≡ length row
   pub long : length marks′ ≡ length marks
   pub clear : (j : ℕ) → j < m → mark marks′ j ≡ false
@@ -56,7 +56,7 @@ pub record Swept {K M : Type 0} (o : Operations M) (means : K → M) (t : Tape) 
 -- the marked lines at or below register r are worked out
 pub record Recomputed {K M : Type 0} (o : Operations M) (means : K → M) (old : Table) (r : ℕ) (row row′ : List K) (new : Table) (worked : ℕ) : Type 0 where
   pub tape : table-tape new ≡ table-tape old
-  pub swept : Swept o means (table-tape old) (reach (table-tape old) r) row (old .stale) row′ (new .stale) worked
+  pub swept : Swept o means (table-tape old) (count-to (table-tape old) r) row (old .stale) row′ (new .stale) worked
 
 -- the register of the lowest marked line, if a line is marked
 abbrev pub Waiting : Tape → List Bool → Option ℕ → Type 0

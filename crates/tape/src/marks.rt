@@ -1,6 +1,5 @@
 // The marks of a table's lines: `spread` marks what an edit made stale, `recompute` works out what is stale.
 ghost use mathlib.Core.Path.{_≡_};
-ghost use mathlib.Core.Bool.{false};
 ghost use mathlib.Core.List.{map};
 ghost use Prim.Native.Nat.{_+_, _≤_};
 ghost use lib.ListN.{length};
@@ -16,7 +15,7 @@ use crate::tables::Table;
 use kind::Kind;
 
 // Whether the register is `q` or that of a marked line.
-fn hit(register: usize, controls: usize, q: usize, marks: &[bool]) -> bool
+fn is_touched(register: usize, controls: usize, q: usize, marks: &[bool]) -> bool
     ensures { λ r. ⌜ r ≡ touched controls q (now (marks .entry)) register ⌝ }
 {
     if register == q {
@@ -34,13 +33,13 @@ fn touches(line: Line, controls: usize, q: usize, marks: &[bool]) -> bool
 {
     match line {
         Line::Constant(_) => false,
-        Line::Add(a, b) => hit(a as usize, controls, q, marks)
-            | hit(b as usize, controls, q, marks),
-        Line::Subtract(a, b) => hit(a as usize, controls, q, marks)
-            | hit(b as usize, controls, q, marks),
-        Line::Multiply(a, b) => hit(a as usize, controls, q, marks)
-            | hit(b as usize, controls, q, marks),
-        Line::Opposite(a) => hit(a as usize, controls, q, marks),
+        Line::Add(a, b) => is_touched(a as usize, controls, q, marks)
+            | is_touched(b as usize, controls, q, marks),
+        Line::Subtract(a, b) => is_touched(a as usize, controls, q, marks)
+            | is_touched(b as usize, controls, q, marks),
+        Line::Multiply(a, b) => is_touched(a as usize, controls, q, marks)
+            | is_touched(b as usize, controls, q, marks),
+        Line::Opposite(a) => is_touched(a as usize, controls, q, marks),
     }
 }
 

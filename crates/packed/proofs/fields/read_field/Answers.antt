@@ -1,8 +1,7 @@
-use Prim.Native.Nat.{_*_, _-_, _/_, _+_, _^_, _<_, _≤_}
-use mathlib.Core.Path.{_≡_, refl, sym, ap, _∙_}
+use Prim.Native.Nat.{_*_, _-_, _/_, _+_}
+use mathlib.Core.Path.{_≡_, ap, _∙_}
 use native.Mathlib.Omega.{arith}
 use mir.Facts.{fits-lt-pow}
-use lib.ListN.{length}
 use lib.Bits.{bitOr}
 use Rattle.packed.specs.Bits.{field, number}
 use Rattle.packed.proofs.FieldLaws.{field-more, field-cut, field-lt}

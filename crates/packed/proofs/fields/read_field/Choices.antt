@@ -1,6 +1,5 @@
 use mathlib.Core.Path.{_≡_}
-use Prim.Native.Nat.{_-_, _*_, _/_, _≤_}
-use lib.ListN.{length}
+use Prim.Native.Nat.{_-_, _*_, _/_}
 use Rattle.packed.specs.Bits.{field}
 use Rattle.packed.proofs.fields.read_field.Given as given
 

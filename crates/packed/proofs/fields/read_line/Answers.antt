@@ -1,5 +1,5 @@
 use Prim.Native.Nat.{_*_, _-_, _/_, _%_, _+_, _^_}
-use mathlib.Core.Path.{_≡_, refl, sym, ap, _∙_}
+use mathlib.Core.Path.{_≡_, ap, _∙_}
 use native.Mathlib.Omega.{arith}
 use Rattle.packed.specs.Bits.{field}
 use Rattle.packed.proofs.FieldLaws.{field-inside}

@@ -1,7 +1,6 @@
 use mathlib.Core.Path.{sym, _∙_}
 use native.Mathlib.Omega.{arith}
-use borrow.Author.Tests.{lt-ltb, le-ltb}
-use Rattle.packed.proofs.Looking.{head-none, head-some, line-none, line-some, lines-end}
+use Rattle.packed.proofs.Looking.{head-none, head-some, line-none, line-some, lines-end, head-passes}
 use Rattle.packed.proofs.looks.file_fault.Needs as need
 
 pub loop-j-holds : need.loop-j-holds
@@ -17,16 +16,12 @@ pub returns-in-Some-line-fault : need.returns-in-Some-line-fault
 returns-in-Some-line-fault c =
     sym (c .loop-j .inv ∙ line-some (c .args .bytes .now) _ _ _ _ (c .loop-j-test .taken) (c .in-Some-line-fault .ensures tt))
 
-pub returns-then-read-field-gt0 : need.returns-then-read-field-gt0
-returns-then-read-field-gt0 c =
-    let ends = c .loop-j .inv ∙ lines-end (c .args .bytes .now) _ _ _ (c .loop-j-test .left) (c .read-field-lines .ensures .value) in
-    let some = lt-ltb 0 _ (c .if-read-field-gt0 .taken) in
-    let read = c .read-field .ensures .value in
-    grind arith
+pub closing-fault-requires : need.closing-fault-requires
+closing-fault-requires c κs =
+    let head = head-passes (c .args .bytes .now) (sym (c .in-rest .ensures tt)) in
+    let lines = c .read-field-lines .ensures .value in
+    record { few = (omega arith, omega arith); near = omega arith }
 
 pub returns : need.returns
 returns c =
-    let ends = c .loop-j .inv ∙ lines-end (c .args .bytes .now) _ _ _ (c .loop-j-test .left) (c .read-field-lines .ensures .value) in
-    let none = le-ltb 0 _ (c .if-read-field-gt0 .left) in
-    let read = c .read-field .ensures .value in
-    grind arith
+    c .closing-fault .ensures ∙ sym (c .loop-j .inv ∙ lines-end (c .args .bytes .now) _ _ _ (c .loop-j-test .left) (c .read-field-lines .ensures .value))

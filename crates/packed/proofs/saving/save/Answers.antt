@@ -1,11 +1,10 @@
-use Prim.Native.Nat.{_+_, _-_, _*_, _%_, _<_, _≤_}
-use mathlib.Core.Path.{_≡_, refl, sym, ap, ap₂, _∙_}
+use Prim.Native.Nat.{_+_, _-_, _%_, _<_, _≤_}
+use mathlib.Core.Path.{_≡_, refl, ap, ap₂, _∙_}
 use mathlib.Core.List.{_++_}
 use native.Mathlib.Omega.{arith}
 use lib.ListN.{length, take}
 use mir.Facts.{fits-lt-pow}
 use Rattle.std.specs.Joined.{joined}
-use Rattle.std.proofs.shelf.Bits.{pow-pos}
 use Rattle.std.proofs.shelf.Lists.{take-all, append-assoc}
 use Rattle.std.specs.declared.option.Option.the-variants.{None}
 use Rattle.std.proofs.shelf.Ways.{tells}
@@ -50,8 +49,8 @@ loop-j-again g c =
     (puts-then (c .put-bits-cursor-2 .last .buf) (c .loop-j .buf) (c .put-line-cursor .last .buf) (c .put-bits-cursor-2 .result) (c .loop-j .cursor) (c .put-line-cursor .result)
     (joined line-bits (take j (t .lines))) (line-bits line) (c .loop-j .inv) (c .put-line-cursor .ensures))
 
-pub put-bits-cursor-requires-3 : need.put-bits-cursor-requires-3
-put-bits-cursor-requires-3 g c κs =
+pub fill-byte-cursor-requires : need.fill-byte-cursor-requires
+fill-byte-cursor-requires g c κs =
     let few = g .S·Sheet .keeps (c .args .sheet .now) .few-lines in
     let lines = g .S·Sheet .tape (c .args .sheet .now) .lines in
     let one = c .put-bits-cursor .ensures .count in
@@ -59,13 +58,7 @@ put-bits-cursor-requires-3 g c κs =
     let eight = length-bits 8 (c .controls-controls .result) in
     let eleven = length-bits 11 (c .count-count .result) in
     let more = lines-count lines (c .loop-j .j) (omega arith) in
-    let held = c .loop-j .cursor .few in
-    record {
-      narrow = omega arith;
-      small = pow-pos ((8 - c .loop-j .cursor .held) % 8);
-      near = omega (arith, c .loop-j .inv .count);
-      room = omega (arith, c .loop-j .inv .count);
-    }
+    record { near = omega (arith, c .loop-j .inv .count); room = omega (arith, c .loop-j .inv .count) }
 
 pub returns : need.returns
 returns g c =
@@ -78,19 +71,19 @@ returns g c =
     let eleven = length-bits 11 (c .count-count .result) in
     let more = lines-count (t .lines) (c .loop-j .j) (omega arith) in
     let before = c .loop-j .inv .count in
-    let last = c .put-bits-cursor-3 .ensures .count in
+    let last = c .fill-byte-cursor .ensures .zeros .count in
     let zeros = length-bits k 0 in
     let held = c .loop-j .cursor .few in
-    let held-last = c .put-bits-cursor-3 .result .few in
+    let held-last = c .fill-byte-cursor .result .few in
     let n = c .controls-controls .result in
     let m = c .count-count .result in
     let lines = joined line-bits (t .lines) in
     let head = puts-then _ _ _ _ _ _ _ _ (c .put-bits-cursor .ensures) (c .put-bits-cursor-2 .ensures) in
     let tape = puts-then _ _ _ _ _ _ _ _ head (puts-as _ _ _ _ _ _ whole (c .loop-j .inv)) in
-    let file = puts-then _ _ _ _ _ _ _ _ tape (c .put-bits-cursor-3 .ensures) in
+    let file = puts-then _ _ _ _ _ _ _ _ tape (c .fill-byte-cursor .ensures .zeros) in
     let is : ((bits 8 n ++ bits 11 m) ++ lines) ++ bits k 0 ≡ tape-bits t ++ bits k 0
     = ap (λ bs. bs ++ bits k 0) (append-assoc (bits 8 n) (bits 11 m) lines ∙ ap₂ (λ x y. bits 8 x ++ (bits 11 y ++ lines)) (c .controls-controls .ensures) (c .count-count .ensures)) in
-    let fits : c .put-bits-cursor-3 .result .at ≤ length (c .put-bits-cursor-3 .last .buf) = omega arith in
+    let fits : c .fill-byte-cursor .result .at ≤ length (c .fill-byte-cursor .last .buf) = omega arith in
     let free : refuse-save t (length (c .args .buf .now)) ≡ None = grind (arith, tells) in
     accepted _ _ _ _ free (record {
       long = omega arith;

@@ -1,12 +1,10 @@
-use mathlib.Core.Path.{_≡_}
 use mathlib.Core.Bool.{false}
 use native.Mathlib.Omega.{arith}
-use Prim.Native.Nat.{_≤_, _-_}
-use lib.ListN.{length, getD}
+use Prim.Native.Nat.{_-_}
 use Rattle.std.proofs.shelf.Lists.{getD-past}
 use Rattle.std.proofs.shelf.Ways.{tells}
-use Rattle.tape.proofs.marks.hit.Needs as need
-use Rattle.tape.proofs.marks.hit.Needs.{else-register-controls·by·then-register-controls·else-register-controls-2, else-register-controls·by·else-register-controls}
+use Rattle.tape.proofs.marks.is_touched.Needs as need
+use Rattle.tape.proofs.marks.is_touched.Needs.{else-register-controls·by·then-register-controls·else-register-controls-2, else-register-controls·by·else-register-controls}
 
 pub returns : need.returns
 returns c =
