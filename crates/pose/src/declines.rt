@@ -1,4 +1,9 @@
 // Why a call is declined, in words.
+ghost use mathlib.Core.Path.{_≡_};
+ghost use mathlib.Core.Bool.{true};
+ghost use Rattle.std.specs.declared.option.Option.the-variants.{Some, None};
+ghost use Rattle.tape.specs.Refusals.{notice};
+ghost use Rattle.packed.specs.Faults.{finding};
 use export::ExportFault;
 use packed::FileFault;
 use packed::LineFault;
@@ -25,7 +30,11 @@ pub enum Fault {
 
 impl Decline {
     // A refusal with the reason for a number that names nothing.
-    pub fn new(refusal: Refusal, unknown: &'static str) -> Decline {
+    pub fn new(refusal: Refusal, unknown: &'static str) -> Decline
+        ensures number { λ r. ⌜ r .number ≡ notice refusal .number ⌝ }
+        ensures named { λ r. ⌜ r .named ≡ notice refusal .named ⌝ }
+        ensures bit { λ r. ⌜ r .bit ≡ None ⌝ }
+    {
         let reason = match refusal {
             Refusal::Controls => "the number of controls is not 1 to 128",
             Refusal::Short => "a row is too short",
@@ -52,7 +61,11 @@ impl Decline {
         Decline::new(refusal, "no such register, or not below the line")
     }
 
-    pub fn of_file(fault: FileFault) -> Decline {
+    pub fn of_file(fault: FileFault) -> Decline
+        ensures number { λ r. ⌜ r .number ≡ finding fault .number ⌝ }
+        ensures named { λ r. ⌜ r .named ≡ finding fault .named ⌝ }
+        ensures bit { λ r. ⌜ r .bit ≡ Some (finding fault .bit) ⌝ }
+    {
         let reason = match fault {
             FileFault::Controls => "the number of controls is not 1 to 128",
             FileFault::Lines => "more than 1024 lines",

@@ -10,6 +10,7 @@ mod mistakes;
 mod numbers;
 mod parsing;
 mod printing;
+mod replaying;
 mod replies;
 mod rows;
 mod running;

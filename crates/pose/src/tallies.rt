@@ -47,7 +47,7 @@ pub impl fmt::Display for Tally as TallyDisplay {
         let queries = self.queries;
         write!(
             f,
-            "summary: {calls} calls, {declined} declined, {queries} queries, "
+            "summary: calls {calls}, declined {declined}, queries {queries}; "
         )?;
         if self.differ.is_empty() {
             return write!(f, "session and exporter agreed on all of them");

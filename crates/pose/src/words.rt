@@ -1,6 +1,10 @@
 // Words that write numbers, lines and files.
-ghost use Prim.Native.Nat.{_<_};
+ghost use mathlib.Core.Path.{_≡_};
+ghost use Prim.Native.Nat.{_*_, _+_, _<_, _≤_};
+ghost use lib.ListN.{length};
+ghost use Rattle.std.specs.Of.Vec.{vec-len};
 ghost use Rattle.std.specs.Options.{Cases};
+ghost use Rattle.std.specs.Vec.{made};
 use crate::mistakes::Mistake;
 use crate::mistakes::MistakeFromAlloc;
 use crate::mistakes::MistakeFromRefused;
@@ -32,7 +36,9 @@ fn constant(word: &str) -> Result<i32, Mistake<'_>> {
 }
 
 // The length of a register row.
-pub fn room(word: &str) -> Result<usize, Mistake<'_>> {
+pub fn room(word: &str) -> Result<usize, Mistake<'_>>
+    ensures { λ r. ⌜ made r (λ l. l ≤ 1152) ⌝ }
+{
     let length = index(word)?;
     if length > LONGEST {
         return Err(Mistake::Room(length));
@@ -47,7 +53,9 @@ pub fn number<K: Number>(word: &str) -> Result<K, Mistake<'_>> {
     }
 }
 
-pub fn row<'a, K: Number>(heap: Global, words: &[&'a str]) -> Result<Vec<K>, Mistake<'a>> {
+pub fn row<'a, K: Number>(heap: Global, words: &[&'a str]) -> Result<Vec<K>, Mistake<'a>>
+    ensures { λ r. ⌜ made r (λ row. vec-len row ≡ length (now (words .entry))) ⌝ }
+{
     let mut row = Vec::new(heap);
     for word in words {
         let x: K = number(word)?;
