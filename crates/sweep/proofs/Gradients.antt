@@ -116,6 +116,23 @@ module _ {M : Type 0} {o : Operations M} (laws : Laws o) (vs : List M) (t : Tape
       sym (split ∙ ap (o .plus (dot-product o (take n adjoint) d)) rest ∙ plus-zero laws _) ∙ law moved moved-length
       ∙ dot-unit laws _ (registers t) r known (tangents-length o vs t moved moved-length) ∙ ap (λ T. at o T r) tangents-are
 
+-- A row that begins like an adjoint row begins with the gradient.
+pub gradient-of-row : {K M : Type 0} {o : Operations M} → Laws o → (means : K → M) (t : Tape) (r : ℕ) → r < registers t → (row part : List K) → length part ≡ registers t
+    → take (t .controls) row ≡ take (t .controls) part → (cs : List M) → Transposes o (values o cs (t .lines)) t (unit o (registers t) r) (map means part)
+    → Is-gradient o t cs r (given means t row)
+gradient-of-row {K} {M} {o} laws means t r known row part part-length begins cs law =
+    let k = t .controls in
+    let V = values o cs (t .lines) in
+    let first : given means t row ≡ take k (map means part) = ap (map means) begins ∙ sym (take-map means k part) in
+    let long : length (given means t row) ≡ k = ap length first ∙ length-take-le k (map means part) (rw (length-map part means) (omega (arith, part-length))) in
+    let along : (d : List M) → length d ≡ k → dot-product o (given means t row) d ≡ at o (derivatives o V d (t .lines)) r = λ d e.
+    ap (λ a. dot-product o a d) first ∙ gradient-along laws V t d e r (map means part) known (length-map part means ∙ part-length) law in
+    record {
+      long = long;
+      along = along;
+      entries = λ i h. entry-by-unit laws k i (given means t row) h long ∙ along (unit o k i) (unit-length o k i);
+    }
+
 -- After the walk over the part 0..N of an adjoint row.
 module _ {K M : Type 0} {o : Operations M} (laws : Laws o) (means : K → M) (t : Tape) (r : ℕ) (known : r < registers t) (before part : List K) (n : ℕ) (n-is : n ≡ registers t)
     (within : n ≤ length before) (same-length : length part ≡ length (take (n - 0) before)) where
@@ -141,18 +158,6 @@ module _ {K M : Type 0} {o : Operations M} (laws : Laws o) (means : K → M) (t 
         later = drop-putMid 0 (n - 0) before part N (omega arith) (omega (arith, part-length)) (omega (arith, part-length));
       }
 
-  pub gradient-is : Valid t → (cs : List M) → Transposes o (values o cs (t .lines)) t (unit o (registers t) r) (map means part)
+  pub gradient-is : (cs : List M) → Transposes o (values o cs (t .lines)) t (unit o (registers t) r) (map means part)
       → Is-gradient o t cs r (given means t (putMid 0 (n - 0) before part))
-  gradient-is valid cs law =
-      let k = t .controls in
-      let V = values o cs (t .lines) in
-      let first : given means t after ≡ take k (map means part) =
-      ap (map means) (take-append-le k part _ (omega (arith, part-length))) ∙ sym (take-map means k part) in
-      let long : length (given means t after) ≡ k = ap length first ∙ length-take-le k (map means part) (rw (length-map part means) (omega (arith, part-length))) in
-      let along : (d : List M) → length d ≡ k → dot-product o (given means t after) d ≡ at o (derivatives o V d (t .lines)) r = λ d e.
-      ap (λ a. dot-product o a d) first ∙ gradient-along laws V t d e r (map means part) known (length-map part means ∙ part-length) law in
-      record {
-        long = long;
-        along = along;
-        entries = λ i h. entry-by-unit laws k i (given means t after) h long ∙ along (unit o k i) (unit-length o k i);
-      }
+  gradient-is cs law = gradient-of-row laws means t r known after part part-length (take-append-le (t .controls) part _ (omega (arith, part-length))) cs law

@@ -27,3 +27,10 @@ answered P None (Err e) declines does h = absurd h
 pub why-declined : {R : Type 0} (why : Option Notice) (e : Refusal) (same : Type 0) (done : R → Type 0) → Answered why (Err e) same done → why ≡ Some (notice e)
 why-declined (Some w) e same done h = ap Some (sym (h .0))
 why-declined None e same done h = absurd h
+
+-- an answer that leaves less the same
+pub answered-as : {R : Type 0} (why : Option Notice) (r : Result R Refusal) (same less : Type 0) (done : R → Type 0) → (same → less) → Answered why r same done → Answered why r less done
+answered-as (Some w) (Ok v) same less done f h = absurd h
+answered-as (Some w) (Err e) same less done f h = (h .0, f (h .1))
+answered-as None (Ok v) same less done f h = h
+answered-as None (Err e) same less done f h = absurd h

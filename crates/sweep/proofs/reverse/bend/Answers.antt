@@ -43,7 +43,7 @@ returns g c =
     (omega arith) (c .fill-pairs .kept .row) (c .fill-pairs .ensures) in
     let law : Transposes p (values p (paired cs ds) (t .lines)) t (unit p (registers t) r) (map (dual m) adjoint) =
     transposes-filled p (dual m) t valid r (omega arith) (dual-laws laws) (paired cs ds) old _ fills (map (dual m) adjoint) (c .walk .ensures .transposes) in
-    let gradient = gradient-is (dual-laws laws) (dual m) t r (omega arith) before adjoint _ (omega arith) (omega arith) (c .walk .kept .adjoint) valid (paired cs ds) law in
+    let gradient = gradient-is (dual-laws laws) (dual m) t r (omega arith) before adjoint _ (omega arith) (omega arith) (c .walk .kept .adjoint) (paired cs ds) law in
     accepted _ _ _ _ free (record {
       row = fills;
       adjoint = adjoint-is (dual-laws laws) (dual m) t r (omega arith) before adjoint _ (omega arith) (omega arith) (c .walk .kept .adjoint) _ law;

@@ -40,7 +40,7 @@ returns g c =
     accepted _ _ _ _ free (record {
       row = fills;
       adjoint = adjoint-is laws m t r (omega arith) before adjoint _ (omega arith) (omega arith) (c .walk-operations .kept .adjoint) _ law;
-      gradient = gradient-is laws m t r (omega arith) before adjoint _ (omega arith) (omega arith) (c .walk-operations .kept .adjoint) valid cs law;
+      gradient = gradient-is laws m t r (omega arith) before adjoint _ (omega arith) (omega arith) (c .walk-operations .kept .adjoint) cs law;
       value-is = filled-at o m t cs r old part _ _ fills (c .entry-value .ensures);
       operations-are = counted t r _ (c .walk-operations .ensures .count);
     })
