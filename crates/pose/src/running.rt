@@ -10,6 +10,11 @@ use crate::numbers::SizeNumber;
 use crate::numbers::TicksNumber;
 use crate::parsing::choice;
 use crate::printing::print_reply;
+use crate::replaying::Replays;
+use crate::replaying::ResidueReplays;
+use crate::replaying::SizeReplays;
+use crate::replaying::TicksReplays;
+use crate::replaying::replay_run;
 use crate::rows::LONGEST;
 use crate::rows::zeros;
 use crate::script::ScriptLine;
@@ -27,6 +32,7 @@ use kind::Ticks;
 use kind::TicksKind;
 use session::Opening;
 use session::Session;
+use std::alloc::AllocError;
 use std::alloc::Global;
 use std::io;
 
@@ -63,9 +69,25 @@ fn run_without<K: Number>(
     Ok(())
 }
 
-// A run: a session that was asked for, and the commands after.
-fn run_request<K: Number>(
+// Replays a run that is over. It was opened in the script's line `line`.
+fn end_run<K: Replays>(
     rt: &LibcRuntime,
+    session: &Session<'_, K>,
+    line: usize,
+    request: &Request<K>,
+    entries: &[Entry<'_, K>],
+    tally: &mut Tally,
+) -> io::Result<()> {
+    match replay_run(rt.alloc(), request, entries, session) {
+        Ok(agreed) => Ok(tally.count_run(line, agreed)?),
+        Err(_) => Err(io::Error::from(AllocError)),
+    }
+}
+
+// A run: a session that was asked for, and the commands after.
+fn run_request<K: Replays>(
+    rt: &LibcRuntime,
+    line: usize,
     request: &Request<K>,
     entries: &[Entry<'_, K>],
     tally: &mut Tally,
@@ -75,14 +97,15 @@ fn run_request<K: Number>(
     match Opening::new(request.controls, rest, row.as_slice()) {
         Ok(opening) => {
             let mut session = Session::open(opening, rest, row.as_mut_slice());
-            run_session(rt, &mut session, request.controls, entries, tally)
+            run_session(rt, &mut session, request.controls, entries, tally)?;
+            end_run(rt, &session, line, request, entries, tally)
         }
         Err(_) => run_without(rt, entries, tally),
     }
 }
 
 // The commands from an `open` that is not declined to the next, or those before the first.
-fn run_entries<K: Number>(
+fn run_entries<K: Replays>(
     rt: &LibcRuntime,
     entries: &[Entry<'_, K>],
     tally: &mut Tally,
@@ -92,7 +115,7 @@ fn run_entries<K: Number>(
     };
     run_alone(rt, first, tally)?;
     match &first.command {
-        Ok(Command::Open(request)) => run_request(rt, request, after, tally),
+        Ok(Command::Open(request)) => run_request(rt, first.line, request, after, tally),
         _ => run_without(rt, after, tally),
     }
 }
@@ -106,7 +129,7 @@ fn begins<K: Number>(heap: Global, entry: &Entry<'_, K>) -> bool {
 }
 
 // The lines of one kind.
-fn run_kind<K: Number>(
+fn run_kind<K: Replays>(
     rt: &LibcRuntime,
     lines: &[ScriptLine<'_>],
     room: &mut usize,
@@ -132,9 +155,9 @@ fn run_choice(
     tally: &mut Tally,
 ) -> io::Result<()> {
     match kind {
-        Choice::Ticks => run_kind::<TicksNumber>(rt, lines, room, tally),
-        Choice::Residues => run_kind::<ResidueNumber>(rt, lines, room, tally),
-        Choice::Sizes => run_kind::<SizeNumber>(rt, lines, room, tally),
+        Choice::Ticks => run_kind::<TicksReplays>(rt, lines, room, tally),
+        Choice::Residues => run_kind::<ResidueReplays>(rt, lines, room, tally),
+        Choice::Sizes => run_kind::<SizeReplays>(rt, lines, room, tally),
     }
 }
 

@@ -8,7 +8,8 @@ pub struct Tally {
     calls: u64,
     declined: u64,
     queries: u64,
-    // the lines of the queries on which the session and the exporter differed
+    runs: u64,
+    // the lines of the queries, and of the runs that were replayed, on which the session and the exporter differed
     differ: Vec<usize>,
 }
 
@@ -18,6 +19,7 @@ impl Tally {
             calls: 0,
             declined: 0,
             queries: 0,
+            runs: 0,
             differ: Vec::new(heap),
         }
     }
@@ -38,6 +40,15 @@ impl Tally {
         }
         Ok(())
     }
+
+    // A run that was opened in this line, and replayed at its end.
+    pub fn count_run(&mut self, line: usize, agreed: bool) -> Result<(), AllocError> {
+        self.runs = self.runs.saturating_add(1);
+        if !agreed {
+            self.differ.push(line)?;
+        }
+        Ok(())
+    }
 }
 
 pub impl fmt::Display for Tally as TallyDisplay {
@@ -45,10 +56,9 @@ pub impl fmt::Display for Tally as TallyDisplay {
         let calls = self.calls;
         let declined = self.declined;
         let queries = self.queries;
-        write!(
-            f,
-            "summary: calls {calls}, declined {declined}, queries {queries}; "
-        )?;
+        let runs = self.runs;
+        write!(f, "summary: calls {calls}, declined {declined}, ")?;
+        write!(f, "queries {queries}, runs {runs}; ")?;
         if self.differ.is_empty() {
             return write!(f, "session and exporter agreed on all of them");
         }
