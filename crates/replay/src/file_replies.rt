@@ -12,11 +12,11 @@ use crate::queries::Query;
 use crate::replies::Reply;
 use crate::rows::front;
 use crate::rows::row_of;
+use export::ExportFault;
 use kind::Kind;
 use kind::Pair;
 use std::alloc::AllocError;
 use std::alloc::Global;
-use export::ExportFault;
 
 // An export that was declined, as a reply.
 fn declined<K: Kind>(fault: ExportFault) -> Reply<K>
@@ -39,7 +39,13 @@ fn file_value<K: Kind>(file: &[u8], controls: &[K], r: usize, row: &mut [K]) -> 
     }
 }
 
-fn file_gradient<K: Kind>(file: &[u8], controls: &[K], r: usize, row: &mut [K], adjoint: &mut [K]) -> Reply<K>
+fn file_gradient<K: Kind>(
+    file: &[u8],
+    controls: &[K],
+    r: usize,
+    row: &mut [K],
+    adjoint: &mut [K],
+) -> Reply<K>
     requires given { ⌜ 128 ≤ length (now controls) ⌝ }
     requires full { ⌜ 1152 ≤ length (now row) ⌝ }
     requires held { ⌜ 1152 ≤ length (now adjoint) ⌝ }
@@ -51,7 +57,13 @@ fn file_gradient<K: Kind>(file: &[u8], controls: &[K], r: usize, row: &mut [K], 
     }
 }
 
-fn file_slope<K: Kind>(file: &[u8], controls: &[K], r: usize, direction: &[K], pairs: &mut [Pair<K>]) -> Reply<K>
+fn file_slope<K: Kind>(
+    file: &[u8],
+    controls: &[K],
+    r: usize,
+    direction: &[K],
+    pairs: &mut [Pair<K>],
+) -> Reply<K>
     requires given { ⌜ 128 ≤ length (now controls) ⌝ }
     requires full { ⌜ 1152 ≤ length (now pairs) ⌝ }
     ensures { λ a. ⌜ Reads (now (file .entry)) (Replied (K·Kind .ops) (tape-of (now (file .entry))) (given (K·Kind .means) (tape-of (now (file .entry))) (now (controls .entry))) (K·Kind .means) (Slope r (direction .entry)) a) ⌝ }
@@ -62,7 +74,15 @@ fn file_slope<K: Kind>(file: &[u8], controls: &[K], r: usize, direction: &[K], p
     }
 }
 
-fn file_bend<K: Kind>(file: &[u8], controls: &[K], r: usize, direction: &[K], pairs: &mut [Pair<K>], adjoint: &mut [Pair<K>], out: &mut [K]) -> Reply<K>
+fn file_bend<K: Kind>(
+    file: &[u8],
+    controls: &[K],
+    r: usize,
+    direction: &[K],
+    pairs: &mut [Pair<K>],
+    adjoint: &mut [Pair<K>],
+    out: &mut [K],
+) -> Reply<K>
     requires given { ⌜ 128 ≤ length (now controls) ⌝ }
     requires full { ⌜ 1152 ≤ length (now pairs) ⌝ }
     requires held { ⌜ 1152 ≤ length (now adjoint) ⌝ }
@@ -76,7 +96,12 @@ fn file_bend<K: Kind>(file: &[u8], controls: &[K], r: usize, direction: &[K], pa
 }
 
 // The exporter's reply over a file.
-pub(crate) fn ask_file<K: Kind>(heap: Global, file: &[u8], controls: &[K], query: &Query<K>) -> Result<Reply<K>, AllocError>
+pub(crate) fn ask_file<K: Kind>(
+    heap: Global,
+    file: &[u8],
+    controls: &[K],
+    query: &Query<K>,
+) -> Result<Reply<K>, AllocError>
     requires given { ⌜ 128 ≤ length (now controls) ⌝ }
     ensures { λ res. ⌜ made res (λ a. Reads (now (file .entry)) (Replied (K·Kind .ops) (tape-of (now (file .entry))) (given (K·Kind .means) (tape-of (now (file .entry))) (now (controls .entry))) (K·Kind .means) (now (query .entry)) a)) ⌝ }
 {
@@ -91,9 +116,23 @@ pub(crate) fn ask_file<K: Kind>(heap: Global, file: &[u8], controls: &[K], query
     let mut adjoint_pairs = row_of(heap, pair, 1152)?;
     let reply = match query {
         Query::Value(r) => file_value(file, controls, *r, row.as_mut_slice()),
-        Query::Gradient(r) => file_gradient(file, controls, *r, row.as_mut_slice(), adjoint.as_mut_slice()),
+        Query::Gradient(r) => file_gradient(
+            file,
+            controls,
+            *r,
+            row.as_mut_slice(),
+            adjoint.as_mut_slice(),
+        ),
         Query::Slope(r, d) => file_slope(file, controls, *r, d, pairs.as_mut_slice()),
-        Query::Bend(r, d) => file_bend(file, controls, *r, d, pairs.as_mut_slice(), adjoint_pairs.as_mut_slice(), row.as_mut_slice()),
+        Query::Bend(r, d) => file_bend(
+            file,
+            controls,
+            *r,
+            d,
+            pairs.as_mut_slice(),
+            adjoint_pairs.as_mut_slice(),
+            row.as_mut_slice(),
+        ),
     };
     Ok(reply)
 }

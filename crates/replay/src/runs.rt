@@ -12,7 +12,11 @@ use session::Session;
 use std::alloc::AllocError;
 use std::alloc::Global;
 
-fn make_gradient<K: Kind>(heap: Global, session: &mut Session<K>, register: usize) -> Result<(), AllocError>
+fn make_gradient<K: Kind>(
+    heap: Global,
+    session: &mut Session<K>,
+    register: usize,
+) -> Result<(), AllocError>
     ensures { λ _. ⌜ Steps (K·Kind .ops) (K·Kind .means) (call.Gradient register) (state (now (session .entry))) (state (now (session .exit))) ⌝ }
 {
     let mut adjoint = row_of(heap, K::zero(), 1152)?;
@@ -22,7 +26,12 @@ fn make_gradient<K: Kind>(heap: Global, session: &mut Session<K>, register: usiz
 
 // The derivatives and the controls only read the session.
 
-fn make_slope<K: Kind>(heap: Global, session: &Session<K>, register: usize, direction: &[K]) -> Result<(), AllocError> {
+fn make_slope<K: Kind>(
+    heap: Global,
+    session: &Session<K>,
+    register: usize,
+    direction: &[K],
+) -> Result<(), AllocError> {
     let pair = Pair {
         value: K::zero(),
         tangent: K::zero(),
@@ -32,7 +41,12 @@ fn make_slope<K: Kind>(heap: Global, session: &Session<K>, register: usize, dire
     Ok(())
 }
 
-fn make_bend<K: Kind>(heap: Global, session: &Session<K>, register: usize, direction: &[K]) -> Result<(), AllocError> {
+fn make_bend<K: Kind>(
+    heap: Global,
+    session: &Session<K>,
+    register: usize,
+    direction: &[K],
+) -> Result<(), AllocError> {
     let pair = Pair {
         value: K::zero(),
         tangent: K::zero(),
@@ -102,7 +116,11 @@ fn make<K: Kind>(heap: Global, session: &mut Session<K>, call: &Call<K>) -> Resu
 }
 
 // Makes every call, in order.
-pub(crate) fn make_all<K: Kind>(heap: Global, session: &mut Session<K>, calls: &[Call<K>]) -> Result<(), AllocError>
+pub(crate) fn make_all<K: Kind>(
+    heap: Global,
+    session: &mut Session<K>,
+    calls: &[Call<K>],
+) -> Result<(), AllocError>
     ensures { λ r. ⌜ made r (λ _. Ran (K·Kind .ops) (K·Kind .means) (now (calls .entry)) (state (now (session .entry))) (state (now (session .exit)))) ⌝ }
 {
     for call in calls {

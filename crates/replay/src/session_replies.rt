@@ -38,7 +38,12 @@ fn session_gradient<K: Kind>(session: &mut Session<K>, r: usize, adjoint: &mut [
     }
 }
 
-fn session_slope<K: Kind>(session: &Session<K>, r: usize, direction: &[K], pairs: &mut [Pair<K>]) -> Reply<K>
+fn session_slope<K: Kind>(
+    session: &Session<K>,
+    r: usize,
+    direction: &[K],
+    pairs: &mut [Pair<K>],
+) -> Reply<K>
     requires { ⌜ 1152 ≤ length (now pairs) ⌝ }
     ensures { λ a. ⌜ Session-replied (K·Kind .ops) (K·Kind .means) (state (now (session .entry))) (Slope r (direction .entry)) a ⌝ }
 {
@@ -48,7 +53,14 @@ fn session_slope<K: Kind>(session: &Session<K>, r: usize, direction: &[K], pairs
     }
 }
 
-fn session_bend<K: Kind>(session: &Session<K>, r: usize, direction: &[K], pairs: &mut [Pair<K>], adjoint: &mut [Pair<K>], out: &mut [K]) -> Reply<K>
+fn session_bend<K: Kind>(
+    session: &Session<K>,
+    r: usize,
+    direction: &[K],
+    pairs: &mut [Pair<K>],
+    adjoint: &mut [Pair<K>],
+    out: &mut [K],
+) -> Reply<K>
     requires full { ⌜ 1152 ≤ length (now pairs) ⌝ }
     requires held { ⌜ 1152 ≤ length (now adjoint) ⌝ }
     requires room { ⌜ 128 ≤ length (now out) ⌝ }
@@ -61,7 +73,11 @@ fn session_bend<K: Kind>(session: &Session<K>, r: usize, direction: &[K], pairs:
 }
 
 // The session's reply to a query.
-pub(crate) fn ask_session<K: Kind>(heap: Global, session: &mut Session<K>, query: &Query<K>) -> Result<Reply<K>, AllocError>
+pub(crate) fn ask_session<K: Kind>(
+    heap: Global,
+    session: &mut Session<K>,
+    query: &Query<K>,
+) -> Result<Reply<K>, AllocError>
     ensures { λ res. ⌜ made res (λ a. Session-replied (K·Kind .ops) (K·Kind .means) (state (now (session .entry))) (now (query .entry)) a) ⌝ }
 {
     let zero = K::zero();
@@ -76,7 +92,14 @@ pub(crate) fn ask_session<K: Kind>(heap: Global, session: &mut Session<K>, query
         Query::Value(r) => session_value(session, *r),
         Query::Gradient(r) => session_gradient(session, *r, row.as_mut_slice()),
         Query::Slope(r, d) => session_slope(session, *r, d, pairs.as_mut_slice()),
-        Query::Bend(r, d) => session_bend(session, *r, d, pairs.as_mut_slice(), adjoint.as_mut_slice(), row.as_mut_slice()),
+        Query::Bend(r, d) => session_bend(
+            session,
+            *r,
+            d,
+            pairs.as_mut_slice(),
+            adjoint.as_mut_slice(),
+            row.as_mut_slice(),
+        ),
     };
     Ok(reply)
 }

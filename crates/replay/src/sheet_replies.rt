@@ -28,7 +28,13 @@ fn sheet_value<K: Kind, S: Sheet>(sheet: &S, controls: &[K], r: usize, row: &mut
     }
 }
 
-fn sheet_gradient<K: Kind, S: Sheet>(sheet: &S, controls: &[K], r: usize, row: &mut [K], adjoint: &mut [K]) -> Reply<K>
+fn sheet_gradient<K: Kind, S: Sheet>(
+    sheet: &S,
+    controls: &[K],
+    r: usize,
+    row: &mut [K],
+    adjoint: &mut [K],
+) -> Reply<K>
     requires given { ⌜ 128 ≤ length (now controls) ⌝ }
     requires full { ⌜ 1152 ≤ length (now row) ⌝ }
     requires held { ⌜ 1152 ≤ length (now adjoint) ⌝ }
@@ -40,7 +46,13 @@ fn sheet_gradient<K: Kind, S: Sheet>(sheet: &S, controls: &[K], r: usize, row: &
     }
 }
 
-fn sheet_slope<K: Kind, S: Sheet>(sheet: &S, controls: &[K], r: usize, direction: &[K], pairs: &mut [Pair<K>]) -> Reply<K>
+fn sheet_slope<K: Kind, S: Sheet>(
+    sheet: &S,
+    controls: &[K],
+    r: usize,
+    direction: &[K],
+    pairs: &mut [Pair<K>],
+) -> Reply<K>
     requires given { ⌜ 128 ≤ length (now controls) ⌝ }
     requires full { ⌜ 1152 ≤ length (now pairs) ⌝ }
     ensures { λ a. ⌜ Replied (K·Kind .ops) (S·Sheet .tape (now (sheet .entry))) (given (K·Kind .means) (S·Sheet .tape (now (sheet .entry))) (now (controls .entry))) (K·Kind .means) (Slope r (direction .entry)) a ⌝ }
@@ -51,7 +63,15 @@ fn sheet_slope<K: Kind, S: Sheet>(sheet: &S, controls: &[K], r: usize, direction
     }
 }
 
-fn sheet_bend<K: Kind, S: Sheet>(sheet: &S, controls: &[K], r: usize, direction: &[K], pairs: &mut [Pair<K>], adjoint: &mut [Pair<K>], out: &mut [K]) -> Reply<K>
+fn sheet_bend<K: Kind, S: Sheet>(
+    sheet: &S,
+    controls: &[K],
+    r: usize,
+    direction: &[K],
+    pairs: &mut [Pair<K>],
+    adjoint: &mut [Pair<K>],
+    out: &mut [K],
+) -> Reply<K>
     requires given { ⌜ 128 ≤ length (now controls) ⌝ }
     requires full { ⌜ 1152 ≤ length (now pairs) ⌝ }
     requires held { ⌜ 1152 ≤ length (now adjoint) ⌝ }
@@ -65,7 +85,12 @@ fn sheet_bend<K: Kind, S: Sheet>(sheet: &S, controls: &[K], r: usize, direction:
 }
 
 // The exporter's reply over a sheet.
-pub(crate) fn ask_sheet<K: Kind, S: Sheet>(heap: Global, sheet: &S, controls: &[K], query: &Query<K>) -> Result<Reply<K>, AllocError>
+pub(crate) fn ask_sheet<K: Kind, S: Sheet>(
+    heap: Global,
+    sheet: &S,
+    controls: &[K],
+    query: &Query<K>,
+) -> Result<Reply<K>, AllocError>
     requires given { ⌜ 128 ≤ length (now controls) ⌝ }
     ensures { λ res. ⌜ made res (λ a. Replied (K·Kind .ops) (S·Sheet .tape (now (sheet .entry))) (given (K·Kind .means) (S·Sheet .tape (now (sheet .entry))) (now (controls .entry))) (K·Kind .means) (now (query .entry)) a) ⌝ }
 {
@@ -80,9 +105,23 @@ pub(crate) fn ask_sheet<K: Kind, S: Sheet>(heap: Global, sheet: &S, controls: &[
     let mut adjoint_pairs = row_of(heap, pair, 1152)?;
     let reply = match query {
         Query::Value(r) => sheet_value(sheet, controls, *r, row.as_mut_slice()),
-        Query::Gradient(r) => sheet_gradient(sheet, controls, *r, row.as_mut_slice(), adjoint.as_mut_slice()),
+        Query::Gradient(r) => sheet_gradient(
+            sheet,
+            controls,
+            *r,
+            row.as_mut_slice(),
+            adjoint.as_mut_slice(),
+        ),
         Query::Slope(r, d) => sheet_slope(sheet, controls, *r, d, pairs.as_mut_slice()),
-        Query::Bend(r, d) => sheet_bend(sheet, controls, *r, d, pairs.as_mut_slice(), adjoint_pairs.as_mut_slice(), row.as_mut_slice()),
+        Query::Bend(r, d) => sheet_bend(
+            sheet,
+            controls,
+            *r,
+            d,
+            pairs.as_mut_slice(),
+            adjoint_pairs.as_mut_slice(),
+            row.as_mut_slice(),
+        ),
     };
     Ok(reply)
 }

@@ -13,7 +13,7 @@ use Rattle.replay.proofs.Replying.{file-valid, front-given, gradient-reply, re
 use Rattle.replay.proofs.file_replies.file_gradient.Needs as need
 
 pub returns-in-Err : need.returns-in-Err
-returns-in-Err g c = λ none. 
+returns-in-Err g c = λ none.
     let t = tape-of (c .args .file .now) in
     let valid = file-valid (c .args .file .now) none in
     let few = valid .few-controls in
@@ -23,7 +23,7 @@ returns-in-Err g c = λ none.
     (record { says = refused _ (says .0) _ (sym (roomy-gradient t (c .args .r) (length (c .args .controls .now)) (length (c .args .row .now)) (length (c .args .adjoint .now)) (omega arith) (omega arith) (omega arith)) ∙ says .2); lawful = tt })
 
 pub returns-in-Ok : need.returns-in-Ok
-returns-in-Ok g c = λ none. 
+returns-in-Ok g c = λ none.
     let t = tape-of (c .args .file .now) in
     let valid = file-valid (c .args .file .now) none in
     let few = valid .few-controls in

@@ -12,7 +12,7 @@ use Rattle.replay.proofs.Replying.{file-valid, refused, roomy-slope}
 use Rattle.replay.proofs.file_replies.file_slope.Needs as need
 
 pub returns-in-Err : need.returns-in-Err
-returns-in-Err g c = λ none. 
+returns-in-Err g c = λ none.
     let t = tape-of (c .args .file .now) in
     let valid = file-valid (c .args .file .now) none in
     let few = valid .few-controls in

@@ -8,7 +8,7 @@ use Rattle.replay.proofs.Replying.{front-given, gradient-reply, refused, roomy
 use Rattle.replay.proofs.sheet_replies.sheet_gradient.Needs as need
 
 pub returns-in-Err : need.returns-in-Err
-returns-in-Err g c = 
+returns-in-Err g c =
     let t = g .S·Sheet .tape (c .args .sheet .now) in
     let valid = g .S·Sheet .keeps (c .args .sheet .now) in
     let few = valid .few-controls in
@@ -17,7 +17,7 @@ returns-in-Err g c =
     record { says = refused _ _ _ (sym (roomy-gradient t (c .args .r) (length (c .args .controls .now)) (length (c .args .row .now)) (length (c .args .adjoint .now)) (omega arith) (omega arith) (omega arith)) ∙ says); lawful = tt }
 
 pub returns-in-Ok : need.returns-in-Ok
-returns-in-Ok g c = 
+returns-in-Ok g c =
     let t = g .S·Sheet .tape (c .args .sheet .now) in
     let valid = g .S·Sheet .keeps (c .args .sheet .now) in
     let few = valid .few-controls in

@@ -7,7 +7,7 @@ use Rattle.replay.proofs.Replying.{refused, roomy-slope}
 use Rattle.replay.proofs.sheet_replies.sheet_slope.Needs as need
 
 pub returns-in-Err : need.returns-in-Err
-returns-in-Err g c = 
+returns-in-Err g c =
     let t = g .S·Sheet .tape (c .args .sheet .now) in
     let valid = g .S·Sheet .keeps (c .args .sheet .now) in
     let few = valid .few-controls in
