@@ -1,4 +1,4 @@
-// The queries of a session, and their outcomes. What they write is in `ours`.
+// The queries of a session, and their outcomes. What they write is in `by_session`.
 use crate::numbers::Number;
 use crate::outcomes::Outcome;
 use crate::outcomes::declined;
@@ -17,7 +17,7 @@ pub fn ask_gradient<K: Number>(
     r: usize,
     rows: &mut Rows<K>,
 ) -> Outcome {
-    match session.gradient(r, &mut rows.ours) {
+    match session.gradient(r, &mut rows.by_session) {
         Ok(answer) => Outcome::Given(answer.value.word(), answer.operations),
         Err(refusal) => declined(refusal),
     }
@@ -36,7 +36,7 @@ pub fn ask_bend<K: Number>(session: &Session<'_, K>, r: usize, rows: &mut Rows<K
         &rows.direction,
         &mut rows.pairs,
         &mut rows.adjoint,
-        &mut rows.ours,
+        &mut rows.by_session,
     ) {
         Ok(()) => Outcome::Given(0, 0),
         Err(refusal) => declined(refusal),

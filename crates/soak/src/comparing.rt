@@ -24,14 +24,18 @@ pub fn compare<K: Number>(
 ) {
     rows.save(session);
     let r = random.register(registers);
-    let ours = ask_value(session, r);
-    let theirs = export_value(r, rows);
-    tally.comparison(ours, theirs, true);
+    let by_session = ask_value(session, r);
+    let by_exporter = export_value(r, rows);
+    tally.comparison(by_session, by_exporter, true);
     let s = random.register(registers);
-    rows.level();
-    let ours = ask_gradient(session, s, rows);
-    let theirs = export_gradient(s, rows);
-    tally.comparison(ours, theirs, same_row(&rows.ours, &rows.theirs));
+    rows.reset();
+    let by_session = ask_gradient(session, s, rows);
+    let by_exporter = export_gradient(s, rows);
+    tally.comparison(
+        by_session,
+        by_exporter,
+        same_row(&rows.by_session, &rows.by_exporter),
+    );
 }
 
 // The slope and the bend of one register, along one direction.
@@ -43,13 +47,17 @@ pub fn compare_along<K: Number>(
     tally: &mut Tally,
 ) {
     rows.save(session);
-    rows.turn(random);
+    rows.redirect(random);
     let r = random.register(registers);
-    let ours = ask_slope(session, r, rows);
-    let theirs = export_slope(r, rows);
-    tally.comparison(ours, theirs, true);
-    rows.level();
-    let ours = ask_bend(session, r, rows);
-    let theirs = export_bend(r, rows);
-    tally.comparison(ours, theirs, same_row(&rows.ours, &rows.theirs));
+    let by_session = ask_slope(session, r, rows);
+    let by_exporter = export_slope(r, rows);
+    tally.comparison(by_session, by_exporter, true);
+    rows.reset();
+    let by_session = ask_bend(session, r, rows);
+    let by_exporter = export_bend(r, rows);
+    tally.comparison(
+        by_session,
+        by_exporter,
+        same_row(&rows.by_session, &rows.by_exporter),
+    );
 }

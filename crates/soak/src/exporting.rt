@@ -1,4 +1,4 @@
-// The same queries of the exporter, from the saved file and the controls. What they write is in `theirs`.
+// The same queries of the exporter, from the saved file and the controls. What they write is in `by_exporter`.
 use crate::numbers::Number;
 use crate::outcomes::Outcome;
 use crate::outcomes::not_exported;
@@ -15,7 +15,13 @@ pub fn export_value<K: Number>(r: usize, rows: &mut Rows<K>) -> Outcome {
 
 pub fn export_gradient<K: Number>(r: usize, rows: &mut Rows<K>) -> Outcome {
     let file = front(&rows.file, rows.len);
-    match export::gradient(file, &rows.controls, r, &mut rows.work, &mut rows.theirs) {
+    match export::gradient(
+        file,
+        &rows.controls,
+        r,
+        &mut rows.work,
+        &mut rows.by_exporter,
+    ) {
         Ok(answer) => Outcome::Given(answer.value.word(), answer.operations),
         Err(fault) => not_exported(fault),
     }
@@ -38,7 +44,7 @@ pub fn export_bend<K: Number>(r: usize, rows: &mut Rows<K>) -> Outcome {
         r,
         &mut rows.pairs,
         &mut rows.adjoint,
-        &mut rows.theirs,
+        &mut rows.by_exporter,
     ) {
         Ok(()) => Outcome::Given(0, 0),
         Err(fault) => not_exported(fault),

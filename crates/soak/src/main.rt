@@ -51,7 +51,7 @@ fn soak<K: Number>(session: &mut Session<'_, K>, random: &mut Random, rows: &mut
 fn run<K: Number>(rt: &LibcRuntime, name: &str, seed: u64) -> io::Result<()> {
     let mut random = Random(seed);
     let mut rows: Rows<K> = Rows::new(rt.alloc())?;
-    rows.turn(&mut random);
+    rows.redirect(&mut random);
     let mut row = zeros(rt.alloc(), 64)?;
     let opening = match Opening::new(5, &rows.direction, &row) {
         Ok(opening) => opening,

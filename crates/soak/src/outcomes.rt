@@ -54,10 +54,10 @@ impl Tally {
     }
 
     // The session's outcome beside the exporter's, and whether what they wrote is the same.
-    pub fn comparison(&mut self, ours: Outcome, theirs: Outcome, written: bool) {
-        self.call(ours);
+    pub fn comparison(&mut self, by_session: Outcome, by_exporter: Outcome, written: bool) {
+        self.call(by_session);
         self.comparisons = self.comparisons.saturating_add(1);
-        if ours != theirs || !written {
+        if by_session != by_exporter || !written {
             self.mismatches = self.mismatches.saturating_add(1);
         }
     }

@@ -13,7 +13,7 @@ impl Random {
         x ^= x >> 7;
         x ^= x << 17;
         self.0 = x;
-        x.wrapping_mul(2685821657736338717) >> 8
+        x.wrapping_mul(2685821657736338717).rotate_left(32)
     }
 
     // A number below n, or 0 where n is 0.
@@ -35,8 +35,7 @@ impl Random {
     // A number of few bits or many.
     pub fn number<K: Number>(&mut self) -> K {
         let bits = self.next() % 64;
-        let word = self.next().wrapping_mul(257);
-        K::of(word >> bits)
+        K::of(self.next() >> bits)
     }
 
     // A line that mostly reads registers below `own`.

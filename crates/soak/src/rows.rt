@@ -24,8 +24,8 @@ pub struct Rows<K: Number> {
     pub adjoint: Vec<Pair<K>>,
     pub direction: Vec<K>,
     // what the session writes, and what the exporter does
-    pub ours: Vec<K>,
-    pub theirs: Vec<K>,
+    pub by_session: Vec<K>,
+    pub by_exporter: Vec<K>,
     // the saved file, in the first `len` bytes, and the controls copied out
     pub file: Vec<u8>,
     pub len: usize,
@@ -39,8 +39,8 @@ impl<K: Number> Rows<K> {
             pairs: zeros(heap, 64)?,
             adjoint: zeros(heap, 64)?,
             direction: zeros(heap, 5)?,
-            ours: zeros(heap, 64)?,
-            theirs: zeros(heap, 64)?,
+            by_session: zeros(heap, 64)?,
+            by_exporter: zeros(heap, 64)?,
             file: vec![in heap; 0; 300]?,
             len: 0,
             controls: zeros(heap, 5)?,
@@ -56,17 +56,17 @@ impl<K: Number> Rows<K> {
     }
 
     // One number in all of both rows, so that an entry that only one side writes is seen.
-    pub fn level(&mut self) {
-        for x in self.ours.iter_mut() {
+    pub fn reset(&mut self) {
+        for x in self.by_session.iter_mut() {
             *x = K::one();
         }
-        for x in self.theirs.iter_mut() {
+        for x in self.by_exporter.iter_mut() {
             *x = K::one();
         }
     }
 
     // Another direction.
-    pub fn turn(&mut self, random: &mut Random) {
+    pub fn redirect(&mut self, random: &mut Random) {
         for x in self.direction.iter_mut() {
             *x = random.number();
         }

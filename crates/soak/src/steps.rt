@@ -57,7 +57,7 @@ fn query<K: Number>(
     rows: &mut Rows<K>,
 ) -> Outcome {
     let r = random.register(registers);
-    rows.turn(random);
+    rows.redirect(random);
     match random.next() % 4 {
         0 => ask_value(session, r),
         1 => ask_gradient(session, r, rows),
