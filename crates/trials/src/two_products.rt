@@ -20,7 +20,7 @@ const CONTROLS: [Ticks; 3] = [Ticks(2), Ticks(3), Ticks(4)];
 
 const ONES: [Ticks; 3] = [Ticks(1), Ticks(1), Ticks(1)];
 
-const NOUGHT: Pair<Ticks> = Pair {
+const ZERO: Pair<Ticks> = Pair {
     value: Ticks(0),
     tangent: Ticks(0),
 };
@@ -57,7 +57,7 @@ fn the_value_in_each_kind() -> Result<(), Fail> {
 #[test]
 fn the_slope_along_ones() -> Result<(), Fail> {
     let table = two_products()?;
-    let mut pairs = [NOUGHT; 8];
+    let mut pairs = [ZERO; 8];
     let Ok(x) = slope(&table, &CONTROLS, &ONES, 4, &mut pairs) else {
         return check(false);
     };
@@ -79,8 +79,8 @@ fn the_gradient() -> Result<(), Fail> {
 #[test]
 fn the_bend_along_ones() -> Result<(), Fail> {
     let table = two_products()?;
-    let mut row = [NOUGHT; 8];
-    let mut adjoint = [NOUGHT; 8];
+    let mut row = [ZERO; 8];
+    let mut adjoint = [ZERO; 8];
     let mut out = [Ticks(0); 3];
     check(bend(
         &table,
