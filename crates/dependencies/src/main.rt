@@ -1,5 +1,7 @@
 // Which controls a register depends on: after each edit of a rig the pattern is asked of the session, and of the exporter on the
 // saved file. At the end the whole run is replayed.
+#![tactic(auto)]
+
 mod asking;
 mod patterns;
 mod printing;

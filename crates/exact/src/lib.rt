@@ -1,4 +1,6 @@
 // Whole numbers from ticks: exact values and slopes, and how far a step may go before a test changes.
+#![tactic(auto)]
+
 pub mod answers;
 pub mod images;
 pub mod narrowing;

@@ -1,4 +1,6 @@
 // Number kinds: the arithmetic that every sweep of the kernel is written over.
+#![tactic(auto)]
+
 pub mod capped;
 pub mod dual;
 pub mod kinds;

@@ -1,4 +1,6 @@
 // The packed tape file: one file for each tape, read straight from its bytes.
+#![tactic(auto)]
+
 pub mod copying;
 mod cursors;
 pub mod faults;

@@ -1,5 +1,7 @@
 // Runs a script of editing sessions and exports, from standard input or from the file that is named as the first argument,
 // and prints one line for each command.
+#![tactic(auto)]
+
 mod agreement;
 mod asking;
 mod commands;

@@ -1,4 +1,6 @@
 // Runs of a session replayed from their calls, and the two parties' answers beside each other.
+#![tactic(auto)]
+
 mod file_replies;
 pub mod messages;
 pub mod outcomes;

@@ -1,5 +1,7 @@
 // An editing session over a tape: controls are set, lines are added, changed and dropped, and only the lines that an edit
 // made stale are worked out again.
+#![tactic(auto)]
+
 pub mod answers;
 pub mod calls;
 pub mod openings;

@@ -1,5 +1,7 @@
 // A long run of random steps in each kind. After every step what the session answers is compared with what the exporter
 // answers from the file that the session saves.
+#![tactic(auto)]
+
 mod asking;
 mod comparing;
 mod exporting;

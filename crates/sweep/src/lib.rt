@@ -1,5 +1,7 @@
 // The sweeps over any sheet and any number kind, from nothing kept: values and slopes going up the lines,
 // gradients and bends going down.
+#![tactic(auto)]
+
 pub mod answers;
 pub mod filling;
 pub mod forward;

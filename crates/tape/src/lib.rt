@@ -1,4 +1,6 @@
 // Tapes: lines over registers, the sheets that mean them, and the table that a session edits.
+#![tactic(auto)]
+
 pub mod edits;
 pub mod laws;
 pub mod lines;

@@ -1,4 +1,6 @@
 // Small examples, each with its answers worked out by hand: one proved table, and tests.
+#![tactic(auto)]
+
 #[cfg(test)]
 mod limits;
 pub mod poses;

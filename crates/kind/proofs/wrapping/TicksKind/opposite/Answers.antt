@@ -6,5 +6,5 @@ use Rattle.kind.proofs.wrapping.TicksKind.opposite.Goals as goal
 
 pub returns : goal.returns
 returns c =
-    let is : to_z w64 (of_z w64 c.wrapping-neg.result) ≡ int_wrap w64 (neg_ℤ c.args.self.0) = search (rules, wraps) in
+    let is : to_z w64 (of_z w64 c.wrapping_neg.result) ≡ int_wrap w64 (neg_ℤ c.args.self.0) = search (rules, wraps) in
     record { meaning = tick_opposite _ c.args.self.0 (search rules) is; exact = is }
