@@ -17,17 +17,17 @@ loop-i-init c =
 pub read-requires : goal.read-requires
 read-requires c = record { paired = c.requires.paired c.loop-i.i (omega arith); sized = c.requires.sized c.loop-i.i (omega arith) }
 
-pub returns-in-err-whole : goal.returns-in-err-whole
-returns-in-err-whole c =
+pub returns-in_err-whole : goal.returns-in_err-whole
+returns-in_err-whole c =
     let p = err_from_is_err_and c.from-residual.result c.from-residual.ensures.1 in
     let test = λ (r : ℕ). large (sizes_at c.args.sizes.now r) in
-    let stopped = why_declined _ _ _ _ c.in-err-whole.ensures in
+    let stopped = why_declined _ _ _ _ c.in_err-whole.ensures in
     let why = refused_at 10 test c.args.tests.now c.loop-i.i _ (omega arith) c.loop-i.invariant.0 stopped in
     rw p.1 (refused _ _ _ _ (why ∙ ap (λ e. Some (notice e)) (sym p.2)) tt)
 
 pub loop-i-preserved : goal.loop-i-preserved
 loop-i-preserved c =
-    let told = not_declined _ _ _ _ c.in-ok-whole.ensures in
+    let told = not_declined _ _ _ _ c.in_ok-whole.ensures in
     let i = c.loop-i.i in
     let test = λ (k : ℕ). get_or c.args.tests.now k 0 in
     let v = λ (k : ℕ). read_value c.args.pairs.now (test k) in

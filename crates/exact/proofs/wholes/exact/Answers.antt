@@ -13,6 +13,6 @@ returns g c =
     let r = c.args.r in
     let q = question t c.args.controls.now c.args.direction.now in
     let old = work c.args.pairs.now c.args.sizes.now in
-    let new = work c.fill-both.new.pairs c.fill-both.new.sizes in
+    let new = work c.fill_both.new.pairs c.fill_both.new.sizes in
     let free : refuse_registers t (lengths q old) (r ∷ []) ≡ None = grind (arith, nat_tests) in
-    tell_exact q old new (g.S.Sheet.keeps c.args.sheet.now) (grind (arith, nat_tests)) (grind (arith, nat_tests)) c.fill-both.ensures r (omega arith) free c.read.result c.read.ensures
+    tell_exact q old new (g.S.Sheet.keeps c.args.sheet.now) (grind (arith, nat_tests)) (grind (arith, nat_tests)) c.fill_both.ensures r (omega arith) free c.read.result c.read.ensures

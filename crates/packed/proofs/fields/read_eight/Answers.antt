@@ -14,7 +14,7 @@ pub loop-i-preserved : goal.loop-i-preserved
 loop-i-preserved c =
     let bytes = c.args.bytes.now in
     ap (bit_or _) c.from.ensures
-    ∙ field_more bytes c.args.from c.loop-i.i c.loop-i.word c.loop-i.auto.i (omega arith) (omega arith) (Fits-lt-pow (c.type-inv.bytes c.loop-i.i)) c.loop-i.invariant
+    ∙ field_more bytes c.args.from c.loop-i.i c.loop-i.word c.loop-i.auto.i (omega arith) (omega arith) (Fits-lt-pow (c.type_inv.bytes c.loop-i.i)) c.loop-i.invariant
 
 pub returns : goal.returns
 returns c =

@@ -16,7 +16,7 @@ loop-i-preserved c =
     let first = c.args.at / 8 in
     let i = c.loop-i.i in
     ap (bit_or _) c.from.ensures
-    ∙ field_more bytes first i c.loop-i.word c.loop-i.auto.i (omega arith) (omega arith) (Fits-lt-pow (c.type-inv.bytes i)) c.loop-i.invariant
+    ∙ field_more bytes first i c.loop-i.word c.loop-i.auto.i (omega arith) (omega arith) (Fits-lt-pow (c.type_inv.bytes i)) c.loop-i.invariant
 
 pub returns : goal.returns
 returns c =

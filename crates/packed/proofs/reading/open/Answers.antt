@@ -7,34 +7,34 @@ use Rattle.packed.proofs.Looking.{faultless}
 use Rattle.packed.proofs.Decoding.{held, packed_of}
 use Rattle.packed.proofs.reading.open.Goals as goal
 
-pub invariant-of-result : goal.invariant-of-result
-invariant-of-result c = (omega arith, (omega arith, (omega arith, (refl, (λ j h. omega arith, (λ j h. refl, (λ j h. (omega arith, omega arith), tt)))))))
+pub invariant_of-result : goal.invariant_of-result
+invariant_of-result c = (omega arith, (omega arith, (omega arith, (refl, (λ j h. omega arith, (λ j h. refl, (λ j h. (omega arith, omega arith), tt)))))))
 
-pub read-field-controls-requires : goal.read-field-controls-requires
-read-field-controls-requires c =
+pub read_field-controls-requires : goal.read_field-controls-requires
+read_field-controls-requires c =
     let three = (faultless c.args.bytes.now (sym c.in-None.ensures)).headed.three in
     record { within = omega arith; near = omega arith; narrow = omega arith }
 
-pub read-field-count-requires : goal.read-field-count-requires
-read-field-count-requires c =
+pub read_field-count-requires : goal.read_field-count-requires
+read_field-count-requires c =
     let three = (faultless c.args.bytes.now (sym c.in-None.ensures)).headed.three in
     record { within = omega arith; near = omega arith; narrow = omega arith }
 
-pub invariant-of-result-in-None : goal.invariant-of-result-in-None
-invariant-of-result-in-None c =
+pub invariant_of-result-in-None : goal.invariant_of-result-in-None
+invariant_of-result-in-None c =
     let bytes = c.args.bytes.now in
     let passed = faultless bytes (sym c.in-None.ensures) in
-    let h = held bytes passed _ _ c.read-field-controls.ensures.value c.read-field-count.ensures.value in
+    let h = held bytes passed _ _ c.read_field-controls.ensures.value c.read_field-count.ensures.value in
     (h.0, (h.1, (h.2, (h.3, (h.4, (h.5, (h.6, tt)))))))
 
 pub returns-in-None : goal.returns-in-None
 returns-in-None c =
     let bytes = c.args.bytes.now in
     let none : fault_of bytes ≡ None = sym c.in-None.ensures in
-    let n = c.read-field-controls.ensures.value in
-    let m = c.read-field-count.ensures.value in
+    let n = c.read_field-controls.ensures.value in
+    let m = c.read_field-count.ensures.value in
     accepted _ bytes _ none (
       refl,
       λ i. record { controls = n i; lines = lines_in bytes (m i) },
-      packed_of bytes (faultless bytes none) (λ i. Fits-lt-pow (c.type-inv.bytes i)),
+      packed_of bytes (faultless bytes none) (λ i. Fits-lt-pow (c.type_inv.bytes i)),
     )

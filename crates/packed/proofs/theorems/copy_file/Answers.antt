@@ -15,7 +15,7 @@ returns-in-Ok c =
     let file = c.args.file.now in
     let buf = c.save.new.buf in
     let size = c.in-Ok.size in
-    let read = not_faulty (fault_of file) file c.open-opened.result c.in-default.is c.open-opened.ensures in
+    let read = not_faulty (fault_of file) file c.open-opened.result c.in_default.is c.open-opened.ensures in
     let old = c.args.buf.now in
     let tape = view_tape c.open-opened.result.view in
     let done = save_done (buf ≡ old) (Saved tape old buf) tape (length old) size c.in-Ok.ensures in
@@ -27,7 +27,7 @@ returns-in-Ok c =
 pub returns-in-Err : goal.returns-in-Err
 returns-in-Err c =
     let file = c.args.file.now in
-    let read = not_faulty (fault_of file) file c.open-opened.result c.in-default.is c.open-opened.ensures in
+    let read = not_faulty (fault_of file) file c.open-opened.result c.in_default.is c.open-opened.ensures in
     let buf = c.save.new.buf in
     let old = c.args.buf.now in
     let tape = view_tape c.open-opened.result.view in

@@ -11,8 +11,8 @@ loop-held-init c =
     let is = shifted_in cursor.held cursor.word c.args.width c.args.value cursor.small c.requires.small (omega (arith, cursor.few)) in
     (rw is (shifted_lt cursor.held cursor.word c.args.width c.args.value cursor.small c.requires.small), omega arith, refl, refl, refl)
 
-pub overflow-cast-buf : goal.overflow-cast-buf
-overflow-cast-buf c =
+pub overflow_cast-buf : goal.overflow_cast-buf
+overflow_cast-buf c =
     let held = c.loop-held.held in
     let split : held ≡ 8 + (held - 8) = omega arith in
     Fits-of_lt (shr_below c.loop-held.word 8 (held - 8) (rw split at c.loop-held.invariant.0))

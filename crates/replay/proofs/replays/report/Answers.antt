@@ -12,9 +12,9 @@ pub returns : goal.returns
 returns g c =
     let k = g.K.Kind in
     let query = c.args.query.now in
-    let controls = c.copy-controls.new.out in
-    let file = c.save-file-length.new.file in
-    let whole = subst (λ n. Reads (take n file) (Replied k.ops (tape_of (take n file)) (given k.means (tape_of (take n file)) controls) k.means query c.in-ok-from-file.from_file))
-    (sub-zero c.save-file-length.result) c.in-ok-from-file.ensures in
-    consistent k.ops k.means (state c.args.session.now) (table_valid c.args.session.now.table) _ _ _ controls c.save-file-length.result _ c.copy-controls.ensures
-    c.save-file-length.ensures refl refl c.front-copied.ensures c.in-ok-reply.ensures whole c.in-ok-on-sheet.ensures
+    let controls = c.copy_controls.new.out in
+    let file = c.save_file-length.new.file in
+    let whole = subst (λ n. Reads (take n file) (Replied k.ops (tape_of (take n file)) (given k.means (tape_of (take n file)) controls) k.means query c.in_ok-from_file.from_file))
+    (sub-zero c.save_file-length.result) c.in_ok-from_file.ensures in
+    consistent k.ops k.means (state c.args.session.now) (table_valid c.args.session.now.table) _ _ _ controls c.save_file-length.result _ c.copy_controls.ensures
+    c.save_file-length.ensures refl refl c.front-copied.ensures c.in_ok-reply.ensures whole c.in_ok-on_sheet.ensures

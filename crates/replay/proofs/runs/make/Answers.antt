@@ -32,8 +32,8 @@ pub returns-in-Drop : goal.returns-in-Drop
 returns-in-Drop g c =
     let k = g.K.Kind in
     let before = state c.args.session.now in
-    let after = state c.drop-last.new.self in
-    for k.ops k.means before after c.in-Drop.is (drop_enters k.ops k.means before after c.drop-last.result c.drop-last.ensures)
+    let after = state c.drop_last.new.self in
+    for k.ops k.means before after c.in-Drop.is (drop_enters k.ops k.means before after c.drop_last.result c.drop_last.ensures)
 
 pub returns-in-Value : goal.returns-in-Value
 returns-in-Value g c =
@@ -64,4 +64,4 @@ returns-in-Controls g c =
 pub returns-in-Gradient : goal.returns-in-Gradient
 returns-in-Gradient g c =
     let k = g.K.Kind in
-    for k.ops k.means (state c.args.session.now) (state c.make-gradient.new.session) c.in-Gradient.is c.make-gradient.ensures
+    for k.ops k.means (state c.args.session.now) (state c.make_gradient.new.session) c.in-Gradient.is c.make_gradient.ensures

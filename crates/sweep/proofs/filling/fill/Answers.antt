@@ -18,5 +18,5 @@ returns g c =
     ∙ ap (map m) c.load.ensures
     ∙ sym (take-map m (length c.args.row.now) controls)
     ∙ ap (λ k. take k (map m controls)) (sym long) in
-    sweep_fills o t (map m controls) (map m row) _ (length-map controls m ∙ c.requires.given) begins c.sweep-lines.ensures
+    sweep_fills o t (map m controls) (map m row) _ (length-map controls m ∙ c.requires.given) begins c.sweep_lines.ensures
     ∙ ap (λ k. take k (values o (map m controls) t.lines)) long

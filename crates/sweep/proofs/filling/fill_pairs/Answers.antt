@@ -14,11 +14,11 @@ returns g c =
     let t = g.S.Sheet.tape c.args.sheet.now in
     let cs = map m c.args.controls.now in
     let ds = map m c.args.direction.now in
-    let row = map (dual m) c.load-pairs.new.row in
-    let long : length row ≡ length c.args.row.now = length-map c.load-pairs.new.row (dual m) ∙ c.load-pairs.auto.row in
+    let row = map (dual m) c.load_pairs.new.row in
+    let long : length row ≡ length c.args.row.now = length-map c.load_pairs.new.row (dual m) ∙ c.load_pairs.auto.row in
     let same : length ds ≡ length cs = simp length-map c.requires.along in
     let given : length (paired cs ds) ≡ t.controls = paired_length cs ds same ∙ length-map c.args.controls.now m ∙ c.requires.given in
     let begins : take t.controls row ≡ take (length row) (paired cs ds) =
-    ap (λ k. take k row) (sym c.requires.given) ∙ c.load-pairs.ensures ∙ ap (λ k. take k (paired cs ds)) (sym long) in
-    sweep_fills o t (paired cs ds) row _ given begins c.sweep-lines.ensures
+    ap (λ k. take k row) (sym c.requires.given) ∙ c.load_pairs.ensures ∙ ap (λ k. take k (paired cs ds)) (sym long) in
+    sweep_fills o t (paired cs ds) row _ given begins c.sweep_lines.ensures
     ∙ ap (λ k. take k (values o (paired cs ds) t.lines)) long

@@ -11,15 +11,15 @@ pub loop-i-init : goal.loop-i-init
 loop-i-init g c =
     (refl, rw c.controls-n.ensures (swept_none g.K.Kind.ops (g.S.Sheet.tape c.args.sheet.now) (map g.K.Kind.means c.args.row.now)))
 
-pub slice-bounds-apply-end : goal.slice-bounds-apply-end
-slice-bounds-apply-end g c = omega (arith, c.loop-i.invariant.0)
+pub slice_bounds-apply-end : goal.slice_bounds-apply-end
+slice_bounds-apply-end g c = omega (arith, c.loop-i.invariant.0)
 
 pub apply-x-requires : goal.apply-x-requires
 apply-x-requires g c =
     let t = g.S.Sheet.tape c.args.sheet.now in
     let long : length (take (c.loop-i.i - 0) c.loop-i.row) ≡ t.controls + (c.loop-i.i - c.controls-n.result) =
     simp length-take (omega (arith, c.loop-i.invariant.0)) in
-    subst₂ Below (sym long) (sym c.line-of-line.ensures) ((g.S.Sheet.keeps c.args.sheet.now).below _ (omega (arith, c.loop-i.invariant.0)))
+    subst₂ Below (sym long) (sym c.line_of-line.ensures) ((g.S.Sheet.keeps c.args.sheet.now).below _ (omega (arith, c.loop-i.invariant.0)))
 
 pub bounds-row-i : goal.bounds-row-i
 bounds-row-i g c = omega (arith, c.loop-i.invariant.0)
@@ -33,7 +33,7 @@ loop-i-preserved g c =
     let long : length (map m c.loop-i.row) ≡ length (map m c.args.row.now) = simp length-map c.loop-i.invariant.0 in
     let x_is : m c.apply-x.result ≡ line_value o (line t (i - t.controls)) (take i (map m c.loop-i.row)) =
     c.apply-x.ensures
-    ∙ ap₂ (line_value o) (c.line-of-line.ensures ∙ ap (λ n. line t (i - n)) c.controls-n.ensures)
+    ∙ ap₂ (line_value o) (c.line_of-line.ensures ∙ ap (λ n. line t (i - n)) c.controls-n.ensures)
     (ap (λ k. map m (take k c.loop-i.row)) (sub-zero i) ∙ sym (take-map m i c.loop-i.row)) in (
       length-set _ _ _ ∙ c.loop-i.invariant.0,
       rw map-set (swept_more o t (map m c.args.row.now) (map m c.loop-i.row) i (m c.apply-x.result) (simp length-map c.requires) long (omega arith)

@@ -22,11 +22,11 @@ returns g c =
     let r = c.args.r in
     let n_is = c.controls-n.ensures in
     let free : refuse_slope t (length controls) (length direction) (length old) r ≡ None = grind (arith, nat_tests) in
-    let fills : Filled (dual_operations o) (dual m) t (paired cs ds) r old (put_mid 0 (r + 1 - 0) old c.fill-pairs.new.row) =
-    part_fills (dual_operations o) (dual m) t (paired cs ds) r old c.fill-pairs.new.row _ (ap₂ paired (given_part m t _ controls n_is) (given_part m t _ direction n_is))
-    (omega arith) c.fill-pairs.auto.row c.fill-pairs.ensures in
+    let fills : Filled (dual_operations o) (dual m) t (paired cs ds) r old (put_mid 0 (r + 1 - 0) old c.fill_pairs.new.row) =
+    part_fills (dual_operations o) (dual m) t (paired cs ds) r old c.fill_pairs.new.row _ (ap₂ paired (given_part m t _ controls n_is) (given_part m t _ direction n_is))
+    (omega arith) c.fill_pairs.auto.row c.fill_pairs.ensures in
     accepted _ _ _ _ free (record {
       row = fills;
-      answer = ap (λ p. p.tangent) (filled_at (dual_operations o) (dual m) t (paired cs ds) r old c.fill-pairs.new.row _ _ fills c.entry.ensures)
+      answer = ap (λ p. p.tangent) (filled_at (dual_operations o) (dual m) t (paired cs ds) r old c.fill_pairs.new.row _ _ fills c.entry.ensures)
           ∙ slope_is g.K.Kind.laws t (g.S.Sheet.keeps c.args.sheet.now) cs ds (given_length m t controls (omega arith)) (given_length m t direction (omega arith)) r;
     })

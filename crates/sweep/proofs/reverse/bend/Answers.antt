@@ -30,19 +30,19 @@ returns g c =
     let out = c.args.out.now in
     let r = c.args.r in
     let n_is = c.controls-n.ensures in
-    let part = c.fill-pairs.new.row in
+    let part = c.fill_pairs.new.row in
     let adjoint = c.walk.new.adjoint in
     let free : refuse_bend t (length controls) (length direction) (length old) (length before) (length out) r ≡ None = grind (arith, nat_tests) in
     let fills : Filled p (dual m) t (paired cs ds) r old (put_mid 0 (r + 1 - 0) old part) =
     part_fills p (dual m) t (paired cs ds) r old part _ (ap₂ paired (given_part m t _ controls n_is) (given_part m t _ direction n_is))
-    (omega arith) c.fill-pairs.auto.row c.fill-pairs.ensures in
+    (omega arith) c.fill_pairs.auto.row c.fill_pairs.ensures in
     let law : Transposes p (values p (paired cs ds) t.lines) t (unit p (registers t) r) (map (dual m) adjoint) =
     transposes_filled p (dual m) t valid r (omega arith) (dual_laws laws) (paired cs ds) old _ fills (map (dual m) adjoint) c.walk.ensures.transposes in
     let gradient = gradient_is (dual_laws laws) (dual m) t r (omega arith) before adjoint _ (omega arith) (omega arith) c.walk.auto.adjoint (paired cs ds) law in
     accepted _ _ _ _ free (record {
       row = fills;
       adjoint = adjoint_is (dual_laws laws) (dual m) t r (omega arith) before adjoint _ (omega arith) (omega arith) c.walk.auto.adjoint _ law;
-      bend = bend_written m t out c.copy-tangents.new.out _ n_is (omega arith) _ c.copy-tangents.ensures
+      bend = bend_written m t out c.copy_tangents.new.out _ n_is (omega arith) _ c.copy_tangents.ensures
           (bend_is laws t valid cs ds (given_length m t controls (omega arith)) (given_length m t direction (omega arith)) r _ gradient);
-      later = later_written m t out c.copy-tangents.new.out _ n_is (omega arith) c.copy-tangents.auto.out;
+      later = later_written m t out c.copy_tangents.new.out _ n_is (omega arith) c.copy_tangents.auto.out;
     })

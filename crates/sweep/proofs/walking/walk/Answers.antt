@@ -23,23 +23,23 @@ loop-i-init g c =
 
 -- the line of one turn
 line_is : (g : _) (c : goal.After-adjoint-in-loop-i·1 g) →
-    let t = g.S.Sheet.tape c.args.sheet.now in c.line-of-line.result ≡ line t (c.loop-i.i - 1 - t.controls)
-line_is g c = c.line-of-line.ensures ∙ ap (λ n. line (g.S.Sheet.tape c.args.sheet.now) (c.loop-i.i - 1 - n)) c.controls-n.ensures
+    let t = g.S.Sheet.tape c.args.sheet.now in c.line_of-line.result ≡ line t (c.loop-i.i - 1 - t.controls)
+line_is g c = c.line_of-line.ensures ∙ ap (λ n. line (g.S.Sheet.tape c.args.sheet.now) (c.loop-i.i - 1 - n)) c.controls-n.ensures
 
 -- its operations
 counted : (g : _) (c : goal.After-adjoint-in-loop-i·1 g) →
     let t = g.S.Sheet.tape c.args.sheet.now in
     sum_by backward_cost (take (c.loop-i.i - t.controls) t.lines)
-    ≡ sum_by backward_cost (take (c.loop-i.i - 1 - t.controls) t.lines) + c.give-back-count.result
+    ≡ sum_by backward_cost (take (c.loop-i.i - 1 - t.controls) t.lines) + c.give_back-count.result
 counted g c =
     let t = g.S.Sheet.tape c.args.sheet.now in
     let i = c.loop-i.i in
-    let cost : backward_cost (line t (i - 1 - t.controls)) ≡ c.give-back-count.result =
-    sym (c.give-back-count.ensures.cost ∙ ap backward_cost (line_is g c)) in
+    let cost : backward_cost (line t (i - 1 - t.controls)) ≡ c.give_back-count.result =
+    sym (c.give_back-count.ensures.cost ∙ ap backward_cost (line_is g c)) in
     count_more t i (omega arith) (omega (arith, c.loop-i.invariant.0)) ∙ ap (λ k. sum_by backward_cost (take (i - 1 - t.controls) t.lines) + k) cost
 
-pub overflow-add-count : goal.overflow-add-count
-overflow-add-count g c =
+pub overflow_add-count : goal.overflow_add-count
+overflow_add-count g c =
     let t = g.S.Sheet.tape c.args.sheet.now in
     omega (arith, counted g c, c.loop-i.invariant.1, count_small t (g.S.Sheet.keeps c.args.sheet.now) c.args.r)
 
@@ -51,12 +51,12 @@ loop-i-preserved g c =
     let vs = map m c.args.values.now in
     let i = c.loop-i.i in
     let old = c.loop-i.adjoint in
-    let new = c.give-back-count.new.adjoint in
+    let new = c.give_back-count.new.adjoint in
     let long : length old ≡ registers t = c.loop-i.auto.adjoint ∙ length-set _ _ _ ∙ c.clear.auto.row ∙ c.requires.full in
     let q_is : m c.index-adjoint-i.result ≡ at o (map m old) (i - 1) =
     read m old (i - 1) _ o.zero (omega (arith, c.loop-i.invariant.0)) c.index-adjoint-i.is in
     let gains : Gains o (map m old) (map m new) (λ row. o.times (at o (map m old) (i - 1)) (line_derivative o vs (line t (i - 1 - t.controls)) row)) =
-    subst₂ (λ x l. Gains o (map m old) (map m new) (λ row. o.times x (line_derivative o vs l row))) q_is (line_is g c) c.give-back-count.ensures.gains in (
+    subst₂ (λ x l. Gains o (map m old) (map m new) (λ row. o.times x (line_derivative o vs l row))) q_is (line_is g c) c.give_back-count.ensures.gains in (
       omega (arith, c.loop-i.invariant.0),
       omega (arith, counted g c, c.loop-i.invariant.1),
       walk_more g.K.Kind.laws vs t (g.S.Sheet.keeps c.args.sheet.now) _ i (map m old) (map m new)

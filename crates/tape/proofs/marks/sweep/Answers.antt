@@ -12,8 +12,8 @@ use Rattle.tape.proofs.Sweeping.{swept_over, swept_next}
 use Rattle.tape.proofs.marks.sweep.Goals as goal
 use Rattle.tape.proofs.marks.sweep.Goals.{then-stale-j, else-stale-j}
 
-pub work-out-x-requires : goal.work-out-x-requires
-work-out-x-requires g c =
+pub work_out-x-requires : goal.work_out-x-requires
+work_out-x-requires g c =
     let t = c.args.table in
     let j = c.loop-j.j in
     reads_fewer (leb (t.controls + j)) (leb (length c.loop-j.row))
@@ -37,9 +37,9 @@ loop-j-preserved g c =
           simp (w.row-is, w.stale-is, w.worked-is) (
             omega arith,
             swept_next kind.ops kind.means (table_tape t) j c.args.row.now row t.stale now c.loop-j.worked in_marks
-                w.work-out-x.result in_row in_now w.if-stale-j.true
+                w.work_out-x.result in_row in_now w.if-stale-j.true
                 (λ i h. t.below i (search rules))
-                (w.work-out-x.ensures ∙ ap (applied kind.ops (at kind.ops _)) read)
+                (w.work_out-x.ensures ∙ ap (applied kind.ops (at kind.ops _)) read)
                 c.loop-j.invariant.1,
           ))
       | else-stale-j w ↦

@@ -5,9 +5,18 @@ use Rattle.tape.proofs.Answering.{accepted}
 use Rattle.tape.proofs.Editing.{clear_none}
 use Rattle.tape.proofs.tables.Table.new.Goals as goal
 
-pub invariant-of-result : goal.invariant-of-result
-invariant-of-result c =
-    (omega arith, (omega arith, (omega arith, (refl, (refl, (λ j h. refl, (λ j h. (omega arith, omega arith), (λ j h. clear_none 1024 j, tt))))))))
+pub invariant_of-result : goal.invariant_of-result
+invariant_of-result c =
+    record {
+      some = omega arith;
+      few = omega arith;
+      room = omega arith;
+      filled = refl;
+      marked = refl;
+      below = λ j h. refl;
+      fit = λ j h. (omega arith, omega arith);
+      clear = λ j h. clear_none 1024 j;
+    }
 
 pub returns : goal.returns
 returns c =

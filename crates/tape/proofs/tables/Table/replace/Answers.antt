@@ -9,8 +9,8 @@ use Rattle.tape.proofs.Answering.{accepted}
 use Rattle.tape.proofs.Editing.{admitted, each_set, clear_other}
 use Rattle.tape.proofs.tables.Table.replace.Goals as goal
 
-pub invariant-of-result : goal.invariant-of-result
-invariant-of-result c =
+pub invariant_of-result : goal.invariant_of-result
+invariant_of-result c =
     let t = c.args.self in
     let l = c.args.line in
     let j = c.args.register - t.controls in
@@ -18,28 +18,16 @@ invariant-of-result c =
     let there : j < length lines = omega (arith, t.filled) in
     let put = take-set-lt t.count t.lines j l (omega arith) in
     let own : c.args.register ≡ t.controls + j = omega arith in
-    let low : Below (t.controls + j) l = subst (λ k. Below k l) own (admitted _ l (sym c.in-default.ensures.why)) in (
-      t.some,
-      (
-        t.few,
-        (
-          t.room,
-          (
-            ap length put ∙ length-set lines j l ∙ t.filled,
-            (
-              length-set t.stale j true ∙ t.marked,
-              (
-                subst (ReadsBelow t.controls) (sym put) (each_set (λ i. Below (t.controls + i)) lines t.below j l there low),
-                (
-                  subst ConstantsFit (sym put) (each_set (λ i. ConstantFits) lines t.fit j l there c.misread.ensures.fits),
-                  (λ i h. let other : i ≢ j = omega arith in clear_other t.stale j true i other (t.clear i h), tt),
-                ),
-              ),
-            ),
-          ),
-        ),
-      ),
-    )
+    let low : Below (t.controls + j) l = subst (λ k. Below k l) own (admitted _ l (sym c.in_default.ensures.why)) in record {
+      some = t.some;
+      few = t.few;
+      room = t.room;
+      filled = ap length put ∙ length-set lines j l ∙ t.filled;
+      marked = length-set t.stale j true ∙ t.marked;
+      below = subst (ReadsBelow t.controls) (sym put) (each_set (λ i. Below (t.controls + i)) lines t.below j l there low);
+      fit = subst ConstantsFit (sym put) (each_set (λ i. ConstantFits) lines t.fit j l there c.misread.ensures.fits);
+      clear = λ i h. let other : i ≢ j = omega arith in clear_other t.stale j true i other (t.clear i h);
+    }
 
 pub returns : goal.returns
 returns c =
