@@ -3,8 +3,8 @@ use Rattle.packed.specs.Bits.{field}
 use Rattle.packed.proofs.FieldLaws.{field_inside}
 use Rattle.packed.proofs.fields.read_line.Goals as goal
 
-pub returns-then-from_bytes : goal.returns-then-from_bytes
-returns-then-from_bytes c =
+pub returns-then-from-bytes : goal.returns-then-from-bytes
+returns-then-from-bytes c =
     let bytes = c.args.bytes.now in
     let at = c.args.at in
     let before = at % 8 in

@@ -8,7 +8,15 @@ use Rattle.packed.proofs.Decoding.{held, packed_of}
 use Rattle.packed.proofs.reading.open.Goals as goal
 
 pub invariant_of-result : goal.invariant_of-result
-invariant_of-result c = (omega arith, (omega arith, (omega arith, (refl, (λ j h. omega arith, (λ j h. refl, (λ j h. (omega arith, omega arith), tt)))))))
+invariant_of-result c = record {
+  some = omega arith;
+  few = omega arith;
+  room = omega arith;
+  filled = refl;
+  within = λ j h. omega arith;
+  below = λ j h. refl;
+  fit = λ j h. (omega arith, omega arith);
+}
 
 pub read_field-controls-requires : goal.read_field-controls-requires
 read_field-controls-requires c =
@@ -25,7 +33,7 @@ invariant_of-result-in-None c =
     let bytes = c.args.bytes.now in
     let passed = faultless bytes (sym c.in-None.ensures) in
     let h = held bytes passed _ _ c.read_field-controls.ensures.value c.read_field-count.ensures.value in
-    (h.0, (h.1, (h.2, (h.3, (h.4, (h.5, (h.6, tt)))))))
+    record { some = h.0; few = h.1; room = h.2; filled = h.3; within = h.4; below = h.5; fit = h.6 }
 
 pub returns-in-None : goal.returns-in-None
 returns-in-None c =

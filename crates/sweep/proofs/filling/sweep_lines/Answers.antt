@@ -40,8 +40,8 @@ loop-i-preserved g c =
           (simp length-map c.loop-i-test.true) c.loop-i.invariant.1 x_is),
     )
 
-pub shape-of-row : goal.shape-of-row
-shape-of-row g c = c.loop-i.invariant.0
+pub shape_of-row : goal.shape_of-row
+shape_of-row g c = c.loop-i.invariant.0
 
 pub returns : goal.returns
 returns g c =

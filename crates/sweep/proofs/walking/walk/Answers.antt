@@ -22,12 +22,12 @@ loop-i-init g c =
     (omega arith, zero-add _, rw first (walk_none g.K.Kind.laws (map m c.args.values.now) t r c.requires.known))
 
 -- the line of one turn
-line_is : (g : _) (c : goal.After-adjoint-in-loop-i·1 g) →
+line_is : (g : _) (c : goal.After-adjoint-in-loop-i-1 g) →
     let t = g.S.Sheet.tape c.args.sheet.now in c.line_of-line.result ≡ line t (c.loop-i.i - 1 - t.controls)
 line_is g c = c.line_of-line.ensures ∙ ap (λ n. line (g.S.Sheet.tape c.args.sheet.now) (c.loop-i.i - 1 - n)) c.controls-n.ensures
 
 -- its operations
-counted : (g : _) (c : goal.After-adjoint-in-loop-i·1 g) →
+counted : (g : _) (c : goal.After-adjoint-in-loop-i-1 g) →
     let t = g.S.Sheet.tape c.args.sheet.now in
     sum_by backward_cost (take (c.loop-i.i - t.controls) t.lines)
     ≡ sum_by backward_cost (take (c.loop-i.i - 1 - t.controls) t.lines) + c.give_back-count.result
