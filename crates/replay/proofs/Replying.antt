@@ -1,5 +1,6 @@
 -- From what a call leaves to what a reply means. Assumes nothing.
 use Rattle.std.proofs.Common.{◌≡◌, ℕ, ◌<◌, ◌≤◌, Bool, false, ◌||◌, ltb, List, map, length, get_or, take, Some, None, Ok, Err, Option, sym, refl, ap, ◌∙◌, subst, ap₂, arith}
+use Rattle.std.specs.Borrow.{Bor}
 use Rattle.std.specs.List.{range_with_len}
 use Rattle.std.proofs.lemmas.List.FromFn.{get_or-map-range_with_len, length-map-range_with_len}
 use Rattle.std.proofs.lemmas.List.{ext_get_or, take-take}
@@ -75,7 +76,7 @@ module _ {M : Type 0} (o : Operations M) (t : Tape) (cs : List M) {K : Type 0} (
         lawful = (is.along, counted.cheap);
       }
 
-  pub bend_reply : (r : ℕ) (d : _) (out : List K) → refuse_query t (short_direction o t cs means d.now) r ≡ None → IsBend o t cs (given means t d.now) r (given means t out)
+  pub bend_reply : (r : ℕ) (d : Bor (List K)) (out : List K) → refuse_query t (short_direction o t cs means d.now) r ≡ None → IsBend o t cs (given means t d.now) r (given means t out)
       → Replied o t cs means (query.Bend r d) (reply.Bend out)
   bend_reply r d out free is =
       let b = given means t out in

@@ -12,8 +12,8 @@ returns c =
     let value_fits : SFits w64 v = search rules in
     let slope_fits : SFits w64 t = search rules in
     let over : c.if-whole-gt0.slack ≡ slack v = elim c.if-whole-gt0.branch [
-      | then-whole-gt0 w ↦ omega (arith, ints, slack_is v, one_part v, w.slack_is, w.unsigned_abs.ensures.value, w.if-whole-gt0.true)
-      | else-whole-gt0 w ↦ omega (arith, ints, slack_is v, one_part v, w.slack_is, w.unsigned_abs-slack.ensures.value, w.if-whole-gt0.false)
+      | then-whole-gt0 w ↦ omega (arith, ints, slack_is v, one_part v, w.slack-is, w.unsigned_abs.ensures.value, w.if-whole-gt0.true)
+      | else-whole-gt0 w ↦ omega (arith, ints, slack_is v, one_part v, w.slack-is, w.unsigned_abs-slack.ensures.value, w.if-whole-gt0.false)
     ] in
     let by : c.unsigned_abs-2.result ≡ nat_abs t = omega (arith, ints, c.unsigned_abs-2.ensures.value) in
     let some : 0 < nat_abs t = omega (arith, ints, c.requires) in

@@ -19,7 +19,7 @@ read-requires c = record { paired = c.requires.paired c.loop-i.i (omega arith); 
 
 pub returns-in_err-whole : goal.returns-in_err-whole
 returns-in_err-whole c =
-    let p = err_from_is_err_and c.from-residual.result c.from-residual.ensures.1 in
+    let p = err_from_is_err_and c.from_residual.result c.from_residual.ensures.1 in
     let test = λ (r : ℕ). large (sizes_at c.args.sizes.now r) in
     let stopped = why_declined _ _ _ _ c.in_err-whole.ensures in
     let why = refused_at 10 test c.args.tests.now c.loop-i.i _ (omega arith) c.loop-i.invariant.0 stopped in
