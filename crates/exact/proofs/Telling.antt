@@ -1,5 +1,5 @@
 -- What filled rows tell of the whole numbers. Assumes nothing.
-use Rattle.std.proofs.Common.{◌≡◌, ℕ, zero, suc, ◌<◌, ◌≤◌, false, List, [], ◌∷◌, length, get_or, None, Option, Result, sym, refl, ap, ◌∙◌, subst, subst₂, arith}
+use Rattle.std.proofs.Common.{◌≡◌, ℕ, zero, suc, ◌<◌, ◌≤◌, false, List, [], ◌∷◌, length, get_or, None, Option, Result, sym, refl, ap, ◌∙◌, subst₂, arith}
 use Rattle.kind.specs.Capped.{size, size_operations}
 use Rattle.kind.specs.Wrapping.{tick, tick_operations}
 use Rattle.tape.specs.declared.refusals.Refusal.{Refusal}
@@ -13,7 +13,7 @@ use Rattle.exact.specs.Ranges.{Keeps, KeepsAll, Range}
 use Rattle.exact.specs.Readings.{Reads, read_slope, read_value, signed_word, sizes_at, words_at}
 use Rattle.exact.specs.Refusals.{AnsweredAfter, large, refuse_first, refuse_registers, refuse_sizes}
 use Rattle.exact.specs.Steps.{KeepsTests, Steps}
-use Rattle.exact.specs.Wholes.{Question, image_pair, whole_slope, whole_value}
+use Rattle.exact.specs.Wholes.{Question, image_pair}
 use Rattle.exact.proofs.Bounding.{ticks_and_sizes}
 use Rattle.exact.proofs.Finding.{first_same, not_refused}
 use Rattle.exact.proofs.Showing.{filled_at, small}

@@ -1,5 +1,5 @@
 -- What an exact answer is, and what the call leaves. Assumes nothing.
-use Rattle.std.specs.Prelude.{◌≡◌, ℕ, ◌-◌, List, [], ◌∷◌, length, ℤ, Result}
+use Rattle.std.specs.Prelude.{◌≡◌, ℕ, ◌-◌, List, [], ◌∷◌, length, Result}
 use Rattle.kind.specs.declared.capped.Size.{Size}
 use Rattle.kind.specs.declared.dual.Pair.{Pair}
 use Rattle.kind.specs.declared.wrapping.Ticks.{Ticks}

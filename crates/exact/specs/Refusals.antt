@@ -1,5 +1,5 @@
 -- Why a call about whole numbers is declined. Assumes nothing.
-use Rattle.std.specs.Prelude.{ℕ, ◌^◌, Bool, cond, ◌||◌, leb, List, [], ◌∷◌, length, Some, None, Option, Result, nat_le, nat_lt}
+use Rattle.std.specs.Prelude.{ℕ, ◌^◌, Bool, cond, ◌||◌, leb, List, [], ◌∷◌, Some, None, Option, Result, nat_le, nat_lt}
 use Rattle.kind.specs.Capped.{Capped}
 use Rattle.kind.specs.Dual.{Dual}
 use Rattle.tape.specs.declared.refusals.Refusal.{Refusal}

@@ -1,5 +1,5 @@
 -- Whole numbers that are reduced after each operation, as by a remainder or by a cap: a number kind. Assumes nothing.
-use Rattle.std.specs.Prelude.{◌≡◌, ℕ, zero, suc, ◌+◌, ◌*◌, ◌/◌, ◌%◌, min, ℤ, pos, negsuc, refl}
+use Rattle.std.specs.Prelude.{◌≡◌, ℕ, zero, suc, ◌+◌, ◌*◌, ◌/◌, ◌%◌, min, pos, negsuc, refl}
 use Rattle.std.proofs.Common.{sym, ap, ◌∙◌, add-zero, zero-add, add_comm, add_assoc, mul_comm, mul_assoc, mul-add, add-mul, mul-one, one-mul, zero-mul, mul_right_comm, add-one, arith}
 use mathlib.Core.HLevel.{is_prop→PathP}
 use Rattle.std.proofs.Math.Decide.{dec_le}

@@ -1,5 +1,5 @@
 -- The end of a run. Assumes nothing.
-use Rattle.std.proofs.Common.{◌≡◌, ℕ, ◌≤◌, List, ◌++◌, map, length, take, drop, replicate, Some, None, Ok, Err, Option, Result, sym, refl, ap, ◌∙◌, subst, arith}
+use Rattle.std.proofs.Common.{◌≡◌, ℕ, List, ◌++◌, map, length, take, drop, replicate, Some, None, Ok, Err, Option, Result, sym, refl, ap, ◌∙◌, subst, arith}
 use Rattle.std.proofs.lemmas.List.{take_at, length-take-le}
 use Rattle.std.proofs.lemmas.Bool.Decides.{nat_tests}
 use Rattle.kind.specs.Kinds.{Operations}
@@ -14,13 +14,12 @@ use Rattle.session.specs.Runs.{Good, Keeps, book}
 use Rattle.session.specs.States.{Shows, State}
 use Rattle.sweep.specs.Forward.{given}
 use Rattle.tape.specs.declared.refusals.Refusal.{Refusal}
-use Rattle.tape.specs.Refusals.{Answered, Notice, notice}
+use Rattle.tape.specs.Refusals.{Notice, notice}
 use Rattle.tape.proofs.Answering.{carried_out}
-use Rattle.tape.specs.Tapes.{Tape, Valid, registers}
+use Rattle.tape.specs.Tapes.{Tape, Valid}
 use Rattle.replay.specs.Answers.{Reads, Replied}
 use Rattle.replay.specs.declared.outcomes.Outcome.{Outcome}
 use Rattle.replay.specs.declared.queries.Query.{Query}
-use Rattle.replay.specs.declared.replies.Reply.{Reply}
 use Rattle.replay.specs.declared.outcomes.ReplayFault.TheVariants.{Declined, Memory}
 use Rattle.replay.specs.Replays.{AnswersRun, Consistent}
 use Rattle.replay.specs.Runs.{SessionReplied}

@@ -1,5 +1,5 @@
 -- From what a call leaves to what a reply means. Assumes nothing.
-use Rattle.std.proofs.Common.{◌≡◌, ℕ, ◌<◌, ◌≤◌, Bool, false, ◌||◌, ltb, List, map, length, get_or, take, Some, None, Ok, Err, Option, sym, refl, ap, ◌∙◌, subst, ap₂, arith}
+use Rattle.std.proofs.Common.{◌≡◌, ℕ, ◌<◌, ◌≤◌, false, ◌||◌, ltb, List, map, length, get_or, take, Some, None, Option, sym, ap, ◌∙◌, arith}
 use Rattle.std.specs.Borrow.{Bor}
 use Rattle.std.specs.List.{range_with_len}
 use Rattle.std.proofs.lemmas.List.FromFn.{get_or-map-range_with_len, length-map-range_with_len}
@@ -10,8 +10,8 @@ use Rattle.packed.specs.Formats.{tape_of}
 use Rattle.packed.specs.Looks.{fault_of}
 use Rattle.packed.proofs.Decoding.{valid_of}
 use Rattle.packed.proofs.Looking.{faultless}
-use Rattle.sweep.specs.Forward.{Sloped, Valued, given}
-use Rattle.sweep.specs.Queries.{Bent, Graded, IsBend, IsGradient}
+use Rattle.sweep.specs.Forward.{given}
+use Rattle.sweep.specs.Queries.{IsBend, IsGradient}
 use Rattle.sweep.specs.Refusals.{refuse_bend, refuse_gradient, refuse_slope, refuse_value}
 use Rattle.sweep.specs.Reverse.{Counted}
 use Rattle.tape.specs.declared.refusals.Refusal.{Refusal}
@@ -21,7 +21,7 @@ use Rattle.tape.specs.Tapes.{Tape, Valid, registers}
 use Rattle.replay.specs.declared.queries.Query.TheVariants as query
 use Rattle.replay.specs.declared.replies.Reply.TheVariants as reply
 use Rattle.replay.specs.Answers.{bend, declined, gradient}
-use Rattle.replay.specs.Answers.{Answer, Replied, answer_of, bend_of, derivative_of, gradient_of, second_derivative_of, short_direction, unless_declined, value_of}
+use Rattle.replay.specs.Answers.{Answer, Replied, bend_of, derivative_of, gradient_of, second_derivative_of, short_direction, unless_declined, value_of}
 
 -- a file without a fault means a tape within its limits
 pub file_valid : (bytes : List ℕ) → fault_of bytes ≡ None → Valid (tape_of bytes)

@@ -1,32 +1,29 @@
 -- What a session in order replies. Assumes nothing.
-use Rattle.std.proofs.Common.{◌≡◌, ℕ, ◌+◌, ◌<◌, ◌≤◌, Bool, false, List, map, length, take, None, Result, sym, refl, ap, ◌∙◌, arith}
+use Rattle.std.proofs.Common.{◌≡◌, ℕ, ◌+◌, ◌<◌, ◌≤◌, false, List, map, length, take, None, Result, sym, refl, ap, ◌∙◌, arith}
 use Rattle.std.proofs.lemmas.List.{length-take-le, take-take}
 use Rattle.std.proofs.lemmas.Bool.Decides.{nat_tests}
 use Rattle.kind.specs.Kinds.{Laws, Operations}
-use Rattle.session.specs.Books.{Book, worth}
 use Rattle.session.specs.declared.answers.Graded.{Graded}
 use Rattle.session.specs.declared.calls.Call.TheVariants as call
-use Rattle.session.specs.declared.sessions.Answer.{Answer}
 use Rattle.session.specs.Queries.{Grades, WasGraded}
 use Rattle.session.specs.Refusals.{refuse_value}
 use Rattle.session.specs.Runs.{Good, Keeps, book}
-use Rattle.session.specs.States.{Asks, State, WasAsked, WasSwept}
+use Rattle.session.specs.States.{State, WasAsked}
 use Rattle.session.proofs.Entering.{never_short, right_answer, sweep_enters, swept_values}
 use Rattle.sweep.specs.Forward.{given}
-use Rattle.sweep.specs.Queries.{IsGradient}
 use Rattle.sweep.specs.Refusals.{refuse_backward}
 use Rattle.sweep.proofs.Gradients.{gradient_of_row, transposes_same}
 use Rattle.tape.specs.declared.refusals.Refusal.{Refusal}
 use Rattle.tape.specs.Marks.{refuse_register}
 use Rattle.tape.specs.Refusals.{refuse_query}
-use Rattle.tape.specs.Tapes.{Tape, Valid, registers}
+use Rattle.tape.specs.Tapes.{Valid, registers}
 use Rattle.tape.specs.Values.{values}
 use Rattle.tape.proofs.Answering.{answered_as}
 use Rattle.replay.specs.declared.queries.Query.TheVariants as query
 use Rattle.replay.specs.declared.replies.Reply.TheVariants as reply
 use Rattle.replay.specs.Answers.{Replied, value}
 use Rattle.replay.specs.Runs.{Steps}
-use Rattle.replay.proofs.Replying.{done, front_given, gradient_reply}
+use Rattle.replay.proofs.Replying.{done, gradient_reply}
 
 module _ {K M : Type 0} (o : Operations M) (means : K → M) (s s' : State K) (valid : Valid s.tape) (k : ℕ) where
   -- a session's book is its own

@@ -2,7 +2,6 @@
 use Rattle.std.proofs.Common.{◌≡◌, ℕ, ◌+◌, ◌-◌, ◌<◌, ◌≤◌, leb, List, ◌∷◌, ◌++◌, length, take, drop, set, pos, sym, refl, ap, ◌∙◌, subst, ap₂, arith, length-append, length-drop, take-append-drop, length-take}
 use lib.Seq.{append_snoc}
 use Rattle.std.proofs.lemmas.List.{drop_more, get_or_append_left, get_or_at, get_or-take, length-take-le, set_at, take_at, take_more, take-take}
-use Rattle.std.proofs.lemmas.Bool.{lt-leb}
 use Rattle.kind.specs.Algebra.{multiplied}
 use Rattle.kind.specs.Kinds.{Operations, Laws}
 use Rattle.kind.specs.Rows.{dot_product}

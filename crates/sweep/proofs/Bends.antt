@@ -1,5 +1,5 @@
 -- The gradient in pairs: its tangents are the second derivative. Assumes nothing.
-use Rattle.std.proofs.Common.{◌≡◌, ℕ, ◌+◌, ◌-◌, ◌<◌, ◌≤◌, leb, List, [], ◌∷◌, map, length, take, drop, replicate, pos, sym, refl, ap, ◌∙◌, subst, ap₂, arith, length-set, length-take}
+use Rattle.std.proofs.Common.{◌≡◌, ℕ, ◌+◌, ◌-◌, ◌≤◌, leb, List, [], ◌∷◌, map, length, take, drop, replicate, pos, sym, refl, ap, ◌∙◌, subst, ap₂, arith, length-take}
 use mathlib.Core.Path.{fun_ext}
 use borrow.Rule.Slice.PartMut.{put_mid}
 use lib.ListN.{length-replicate}
@@ -7,7 +7,7 @@ use Rattle.std.proofs.lemmas.List.{length-map, take_at, take-map, take-take}
 use Rattle.std.proofs.lemmas.Slice.{drop-put_mid}
 use Rattle.kind.specs.Algebra.{multiplied, times_zero}
 use Rattle.kind.specs.declared.dual.Pair.{Pair}
-use Rattle.kind.specs.Dual.{Dual, dual, dual_laws, dual_operations}
+use Rattle.kind.specs.Dual.{Dual, dual, dual_operations}
 use Rattle.kind.specs.Kinds.{Operations, Laws}
 use Rattle.kind.specs.Rows.{dot_product}
 use Rattle.tape.specs.declared.lines.Line.{Line}
@@ -15,7 +15,7 @@ use Rattle.tape.specs.declared.lines.Line.TheVariants.{Constant, Add, Subtract, 
 use Rattle.tape.specs.Derivatives.{derivatives, line_derivative, line_second, second_derivatives}
 use Rattle.tape.specs.Lines.{Below}
 use Rattle.tape.specs.Rows.{at, grow, unit}
-use Rattle.tape.specs.Tapes.{Tape, Valid, line, registers}
+use Rattle.tape.specs.Tapes.{Tape, Valid, line}
 use Rattle.tape.specs.Values.{values}
 use Rattle.tape.proofs.Growing.{grow_at, grow_keeps, grow_length, grow_map, grown}
 use Rattle.tape.proofs.Reading.{agree_below, second_differential_agree}

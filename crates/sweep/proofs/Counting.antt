@@ -5,7 +5,7 @@ use Rattle.tape.specs.declared.lines.Line.{Line}
 use Rattle.tape.specs.declared.lines.Line.TheVariants.{Constant, Add, Subtract, Multiply, Opposite}
 use Rattle.tape.specs.Tapes.{Tape, Valid, line, registers}
 use Rattle.sweep.specs.Reverse.{Counted}
-use Rattle.tape.specs.Values.{backward_cost, backward_count, evaluation_cost, evaluation_count, lines_to}
+use Rattle.tape.specs.Values.{backward_cost, backward_count, evaluation_cost, lines_to}
 
 line_costs : (l : Line) → (backward_cost l ≤ 4 * evaluation_cost l) × (backward_cost l ≤ 4)
 line_costs (Constant c) = (omega arith, omega arith)

@@ -3,7 +3,7 @@ use Rattle.std.proofs.Common.{◌≡◌, ℕ, ◌+◌, ◌-◌, ◌<◌, ◌≤�
 use native.Mathlib.Decide.{dec_le}
 use borrow.Rule.Slice.PartMut.{put_mid}
 use lib.ListN.{length-replicate}
-use Rattle.std.proofs.lemmas.List.{get_or_append_left, get_or-append_right, get_or-map, get_or-replicate, length-map, length-take-le, take_all, take-append-le, take_at, take-map, take-take}
+use Rattle.std.proofs.lemmas.List.{get_or-append_right, get_or-replicate, length-map, length-take-le, take_all, take-append-le, take_at, take-map, take-take}
 use Rattle.std.proofs.lemmas.Slice.{drop-put_mid}
 use Rattle.std.proofs.lemmas.Bool.{lt-leb}
 use Rattle.kind.specs.Algebra.{plus_zero}
@@ -19,7 +19,7 @@ use Rattle.tape.proofs.Growing.{grow_at, grow_keeps, grow_old, grown, same_to}
 use Rattle.tape.proofs.Reading.{agree_below, differential_agree}
 use Rattle.sweep.specs.Forward.{Filled, given}
 use Rattle.sweep.specs.Queries.{IsGradient}
-use Rattle.sweep.specs.Reverse.{Adjoint, Transposes, sensitivity}
+use Rattle.sweep.specs.Reverse.{Adjoint, Transposes}
 use Rattle.sweep.proofs.Adjoints.{tangents_length}
 use Rattle.sweep.proofs.Products.{dot_append, dot_comm, dot_unit, dot_zeros}
 

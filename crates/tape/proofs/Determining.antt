@@ -1,13 +1,13 @@
 -- A rule that sees only the registers that a line reads determines its row. Assumes nothing.
-use Rattle.std.proofs.Common.{◌≡◌, ℕ, ◌+◌, ◌-◌, ◌<◌, ◌≤◌, Bool, false, leb, List, [], ◌∷◌, ◌++◌, length, get_or, take, pos, sym, refl, ap, ◌∙◌, subst, arith, length-append}
+use Rattle.std.proofs.Common.{◌≡◌, ℕ, ◌+◌, ◌-◌, Bool, false, leb, List, [], ◌∷◌, ◌++◌, length, take, pos, sym, refl, ap, ◌∙◌, subst, arith}
 use Rattle.std.proofs.lemmas.List.{length-take-le, take_all, take-take}
 use Rattle.kind.specs.Kinds.{Operations}
 use Rattle.tape.specs.declared.lines.Line.{Line}
 use Rattle.tape.specs.declared.lines.Line.TheVariants.{Constant}
-use Rattle.tape.specs.Laws.{Consistent, Determined, row_by}
+use Rattle.tape.specs.Laws.{Determined, row_by}
 use Rattle.tape.specs.Lines.{Below, reads}
 use Rattle.tape.specs.Rows.{at, grow}
-use Rattle.tape.specs.Tapes.{Tape, Valid, line, registers}
+use Rattle.tape.specs.Tapes.{line}
 use Rattle.tape.proofs.Growing.{grow_at, grow_keeps, grow_length, grow_to, grown}
 use Rattle.tape.proofs.Reading.{agree_below}
 

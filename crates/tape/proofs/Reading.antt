@@ -6,7 +6,7 @@ use Rattle.std.proofs.lemmas.List.{get_or-map, get_or-take}
 use Rattle.kind.specs.Kinds.{Operations}
 use Rattle.tape.specs.declared.lines.Line.{Line}
 use Rattle.tape.specs.declared.lines.Line.TheVariants.{Constant, Add, Subtract, Multiply, Opposite}
-use Rattle.tape.specs.Lines.{reads, Below}
+use Rattle.tape.specs.Lines.{reads}
 use Rattle.tape.specs.Rows.{at}
 use Rattle.tape.specs.Values.{applied}
 use Rattle.tape.specs.Derivatives.{differential, second_differential}

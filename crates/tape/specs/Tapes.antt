@@ -1,5 +1,5 @@
 -- Tapes and the rules that each keeps. Assumes nothing.
-use Rattle.std.specs.Prelude.{◌≡◌, ℕ, ◌+◌, ◌<◌, ◌≤◌, List, length, pos, negsuc, ◌≤ℤ◌, slice_index_or}
+use Rattle.std.specs.Prelude.{ℕ, ◌+◌, ◌<◌, ◌≤◌, List, length, pos, negsuc, ◌≤ℤ◌, slice_index_or}
 use Rattle.tape.specs.declared.lines.Line.{Line}
 use Rattle.tape.specs.declared.lines.Line.TheVariants.{Constant}
 use Rattle.tape.specs.Lines.{Below, constant}

@@ -1,5 +1,5 @@
 -- Gradients and bends of small tapes, in every kind. Assumes nothing.
-use Rattle.std.proofs.Common.{◌≡◌, ℕ, ◌<◌, List, [], ◌∷◌, length, refl, ◌∙◌}
+use Rattle.std.proofs.Common.{◌≡◌, ℕ, List, [], ◌∷◌, length, refl, ◌∙◌}
 use Rattle.kind.specs.Algebra.{multiplied}
 use Rattle.kind.specs.Kinds.{Operations, Laws}
 use Rattle.kind.specs.Rows.{dot_product}

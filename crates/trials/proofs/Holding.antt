@@ -1,5 +1,5 @@
 -- A session of the two products, by its book and the marks of its lines, and what each call does to it. Assumes nothing.
-use Rattle.std.proofs.Common.{◌≡◌, ℕ, zero, suc, ◌+◌, ◌<◌, ◌≤◌, Bool, true, false, cond, ◌||◌, ltb, leb, List, [], ◌∷◌, length, take, set, pos, negsuc, Some, None, Ok, Err, count_by, Option, Result, sym, refl, ap, ◌∙◌, subst, ap₂, arith, lit<, lit≤}
+use Rattle.std.proofs.Common.{◌≡◌, ℕ, zero, suc, ◌+◌, ◌≤◌, Bool, true, false, cond, leb, List, [], ◌∷◌, length, take, set, Some, None, Ok, Err, count_by, Option, Result, sym, refl, ap, ◌∙◌, subst, ap₂, arith, lit≤}
 use lib.Signed.{le_z_yes}
 use Rattle.std.proofs.lemmas.Bool.{lt-leb}
 use Rattle.kind.specs.Kinds.{Operations}
@@ -10,9 +10,8 @@ use Rattle.tape.specs.Marks.{Spread, Swept, count_to, mark, refuse_register}
 use Rattle.tape.specs.Refusals.{Answered, Notice, cause, naming, plain}
 use Rattle.tape.specs.Tapes.{ConstantsFit, ReadsBelow, Tape, Valid}
 use Rattle.packed.specs.Vectors.{two_products}
-use Rattle.session.specs.declared.calls.Call.TheVariants.{Set}
 use Rattle.session.specs.declared.sessions.Answer.{Answer}
-use Rattle.session.specs.Books.{Book, feed, unless, worth}
+use Rattle.session.specs.Books.{Book, unless, worth}
 use Rattle.session.specs.Refusals.{refuse_add, refuse_set}
 use Rattle.session.specs.Runs.{Keeps}
 use Rattle.session.specs.States.{Adds, Asks, Sets, State, WasAsked, with_line}

@@ -1,6 +1,5 @@
 -- The steps that keep one test, over the whole span. Assumes nothing.
-use Rattle.std.proofs.Common.{◌≡◌, ℕ, ◌≤◌, ℤ, pos, negsuc, ◌≤ℤ◌, ◌<ℤ◌, refl, arith}
-use Rattle.std.specs.Int.{int_min}
+use Rattle.std.proofs.Common.{ℕ, ◌≤◌, ℤ, pos, negsuc, ◌≤ℤ◌, ◌<ℤ◌, arith}
 use Rattle.std.proofs.lemmas.Int.{clamps, ints}
 use Rattle.exact.specs.Narrowing.{Narrowed, Reaches}
 use Rattle.exact.specs.Ranges.{Between, Keeps, Range, Span}

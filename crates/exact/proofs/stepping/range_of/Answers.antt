@@ -1,8 +1,7 @@
-use Rattle.std.proofs.Common.{◌≡◌, ℕ, ◌+◌, ◌<◌, false, [], ◌∷◌, length, get_or, ℤ, Some, None, sym, ap, ◌∙◌, arith, below_more}
+use Rattle.std.proofs.Common.{◌≡◌, ℕ, false, [], ◌∷◌, length, get_or, Some, None, sym, ap, ◌∙◌, arith, below_more}
 use Rattle.std.proofs.lemmas.Result.{err_from_is_err_and}
 use Rattle.tape.specs.Refusals.{notice}
 use Rattle.tape.proofs.Answering.{accepted, not_declined, refused, why_declined}
-use Rattle.exact.specs.Ranges.{Keeps, Range}
 use Rattle.exact.specs.Readings.{read_slope, read_value, sizes_at}
 use Rattle.exact.specs.Refusals.{large, refuse_first}
 use Rattle.exact.proofs.Finding.{first_none, not_refused, refused_at}

@@ -1,6 +1,5 @@
-use Rattle.std.proofs.Common.{◌≡◌, ◌<◌, ◌≤◌, [], ◌∷◌, length, None, arith}
+use Rattle.std.proofs.Common.{◌≡◌, [], ◌∷◌, None, arith}
 use Rattle.std.proofs.lemmas.Bool.Decides.{nat_tests}
-use Rattle.tape.specs.Tapes.{registers}
 use Rattle.exact.specs.Exact.{lengths, work}
 use Rattle.exact.specs.Refusals.{refuse_registers}
 use Rattle.exact.specs.Wholes.{question}

@@ -1,4 +1,4 @@
-use Rattle.std.proofs.Common.{◌≡◌, length, sym, ap, ◌∙◌, subst, arith}
+use Rattle.std.proofs.Common.{length, sym, ap, ◌∙◌, subst, arith}
 use Rattle.export.proofs.Exporting.{why_declined}
 use Rattle.packed.specs.Formats.{tape_of}
 use Rattle.packed.specs.Looks.{fault_of}

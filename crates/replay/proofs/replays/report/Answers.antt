@@ -1,4 +1,4 @@
-use Rattle.std.proofs.Common.{◌≡◌, ◌-◌, take, refl, subst}
+use Rattle.std.proofs.Common.{take, refl, subst}
 use native.Mathlib.Nat.{sub-zero}
 use Rattle.packed.specs.Formats.{tape_of}
 use Rattle.session.specs.States.{state}

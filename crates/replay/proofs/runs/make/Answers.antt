@@ -1,6 +1,6 @@
 use Rattle.std.proofs.Common.{refl}
 use Rattle.tape.specs.Tables.{table_valid}
-use Rattle.session.specs.declared.calls.Call.TheVariants.{Save, Gradient, Slope, Bend, Waiting, Controls}
+use Rattle.session.specs.declared.calls.Call.TheVariants.{Save, Waiting, Controls}
 use Rattle.session.specs.States.{state}
 use Rattle.session.proofs.Entering.{for, set_enters, add_enters, change_enters, drop_enters, ask_enters, look_enters}
 use Rattle.replay.proofs.runs.make.Goals as goal

@@ -1,4 +1,4 @@
-use Rattle.std.proofs.Common.{◌≡◌, length, sym, ◌∙◌, subst, arith}
+use Rattle.std.proofs.Common.{length, sym, ◌∙◌, subst, arith}
 use Rattle.session.specs.States.{state}
 use Rattle.sweep.specs.Queries.{Bent, IsBend}
 use Rattle.sweep.specs.Refusals.{refuse_bend}

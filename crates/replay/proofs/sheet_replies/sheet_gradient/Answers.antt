@@ -1,4 +1,4 @@
-use Rattle.std.proofs.Common.{◌≡◌, length, sym, ◌∙◌, subst, arith}
+use Rattle.std.proofs.Common.{length, sym, ◌∙◌, subst, arith}
 use Rattle.tape.proofs.Answering.{not_declined, why_declined}
 use Rattle.sweep.specs.Queries.{IsGradient}
 use Rattle.sweep.specs.Refusals.{refuse_gradient}

@@ -1,4 +1,4 @@
-use Rattle.std.proofs.Common.{◌≡◌, length, sym, ◌∙◌, subst, arith}
+use Rattle.std.proofs.Common.{length, sym, ◌∙◌, arith}
 use Rattle.tape.proofs.Answering.{why_declined}
 use Rattle.sweep.specs.Refusals.{refuse_slope}
 use Rattle.replay.proofs.Replying.{refused, roomy_slope}

@@ -1,4 +1,4 @@
-use Rattle.std.proofs.Common.{◌≡◌, ◌+◌, ◌-◌, ◌<◌, ◌≤◌, false, ◌≢◌, length, get_or, take, set, None, sym, refl, ap, ◌∙◌, subst, ⊎_elim, arith, length-set, length-take, rules}
+use Rattle.std.proofs.Common.{◌≡◌, ◌+◌, ◌-◌, ◌<◌, ◌≤◌, false, ◌≢◌, length, get_or, take, set, None, sym, refl, ◌∙◌, subst, ⊎_elim, arith, length-set, length-take}
 use Rattle.std.proofs.lemmas.List.{take-take, get_or-set_same}
 use Rattle.std.proofs.lemmas.Bool.{cases_lt}
 use Rattle.std.proofs.lemmas.Bool.Decides.{nat_tests}
