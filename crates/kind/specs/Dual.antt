@@ -21,7 +21,7 @@ dual_operations o = record {
 pub dual_path : {M : Type 0} {a b : Dual M} → a.value ≡ b.value → a.tangent ≡ b.tangent → a ≡ b
 dual_path p q = λ i. record { value = p i; tangent = q i }
 
--- the tangent of a product of three, in plain terms: `simp` does not compute a field of `dual-operations o` inside a goal
+-- the tangent of a product of three, in plain terms: `simp` does not compute a field of `dual_operations o` inside a goal
 tangent_assoc : {M : Type 0} {o : Operations M} → Laws o → (a b c a' b' c' : M) → o.plus (o.times (o.times a b) c') (o.times (o.plus (o.times a b') (o.times a' b)) c) ≡ o.plus (o.times a (o.plus (o.times b c') (o.times b' c))) (o.times a' (o.times b c))
 tangent_assoc l a b c a' b' c' = simp multiplied
 

@@ -2,7 +2,7 @@
 use Rattle.std.specs.Prelude.{◌≡◌, ℕ, ◌*◌, ◌≤◌, Bool, false, List, map, length, Some, None, Option, nat_lt}
 use Rattle.std.specs.List.{range_with_len}
 use Rattle.export.specs.declared.faults.ExportFault.{ExportFault}
-use Rattle.export.specs.declared.faults.ExportFault.TheVariants.{File, Query as Query-fault}
+use Rattle.export.specs.declared.faults.ExportFault.TheVariants.{File, Query as QueryFault}
 use Rattle.kind.specs.Kinds.{Operations}
 use Rattle.kind.specs.Rows.{dot_product}
 use Rattle.packed.specs.Faults.{Finding, finding}
@@ -105,5 +105,5 @@ Reads file holds = fault_of file ≡ None → holds
 
 -- an export that was declined, as a reply
 abbrev pub fault_reply : {K : Type 0} → ExportFault → Reply K
-fault_reply (Query-fault e) = reply.Declined e
+fault_reply (QueryFault e) = reply.Declined e
 fault_reply (File e) = reply.Broken e
