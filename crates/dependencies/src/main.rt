@@ -8,18 +8,25 @@ mod printing;
 mod replaying;
 mod rig;
 
-use asking::{ask_exporter, ask_session, make, saved};
+use asking::{ENTRIES, ask_exporter, ask_session, make, saved};
+use export::ExportFault;
 use packed::View;
 use patterns::Dependence;
-use printing::{print_agreement, print_reply};
+use printing::{print_agreement, print_answer};
 use replay::Query;
-use replaying::{blank, replayed};
+use replaying::replayed;
 use rig::{CONTROLS, Edit, edits};
 use session::{Call, Opening, Session};
+use std::alloc::AllocError;
 use std::io;
 
 // The length of the register row.
 const ROOM: usize = 16;
+
+// A row for a walk back.
+fn adjoint(rt: &HostRuntime) -> Result<Vec<Dependence>, AllocError> {
+    vec![in rt.alloc(); Dependence(false); ENTRIES]
+}
 
 fn print_edit(
     rt: &HostRuntime,
@@ -33,10 +40,10 @@ fn print_edit(
         print!(rt; ": refused {number}")?;
     }
     println!(rt; "")?;
-    let by_session = ask_session(session, edit.register);
-    let by_exporter = ask_exporter(session, edit.register);
-    print_reply(rt, "session", edit.register, &by_session)?;
-    print_reply(rt, "exporter", edit.register, &by_exporter)?;
+    let by_session = ask_session(session, edit.register, adjoint(rt)?);
+    let by_exporter = ask_exporter(session, edit.register, adjoint(rt)?);
+    print_answer(rt, "session", edit.register, &by_session)?;
+    print_answer(rt, "exporter", edit.register, &by_exporter)?;
     print_agreement(rt, &by_session, &by_exporter)
 }
 
@@ -48,26 +55,24 @@ fn print_replay(
 ) -> io::Result<()> {
     let register = 4;
     let query = Query::Gradient(register);
-    let mut out = blank();
-    let heap = rt.alloc();
-    let made = replayed(heap, CONTROLS, rest, ROOM, calls, &query, sheet, &mut out);
-    if made.is_err() {
+    let Ok(out) = replayed(rt.alloc(), CONTROLS, rest, ROOM, calls, &query, sheet) else {
         return println!(rt; "not replayed");
-    }
+    };
+    let by_session = out.session.map_err(ExportFault::Query);
+    let on_sheet = out.on_sheet.map_err(ExportFault::Query);
     println!(rt; "replay")?;
-    print_reply(rt, "session", register, &out.session)?;
-    print_reply(rt, "exporter on the file", register, &out.from_file)?;
-    print_agreement(rt, &out.session, &out.from_file)?;
-    print_reply(rt, "exporter on the view", register, &out.on_sheet)?;
-    print_agreement(rt, &out.session, &out.on_sheet)
+    print_answer(rt, "session", register, &by_session)?;
+    print_answer(rt, "exporter on the file", register, &out.from_file)?;
+    print_agreement(rt, &by_session, &out.from_file)?;
+    print_answer(rt, "exporter on the view", register, &on_sheet)?;
+    print_agreement(rt, &by_session, &on_sheet)
 }
 
 fn run(rt: &HostRuntime) -> io::Result<()> {
     let rest = [Dependence(true); CONTROLS];
     let mut row = [Dependence(false); ROOM];
-    let opening = match Opening::new(CONTROLS, &rest, &row) {
-        Ok(opening) => opening,
-        Err(_) => return println!(rt; "not opened"),
+    let Ok(opening) = Opening::new(CONTROLS, &rest, &row) else {
+        return println!(rt; "not opened");
     };
     let mut session = Session::open(opening, &rest, &mut row);
     let mut calls = Vec::new(rt.alloc());
@@ -76,8 +81,10 @@ fn run(rt: &HostRuntime) -> io::Result<()> {
         calls.push(edit.call)?;
     }
     let mut buffer = [0; 64];
-    let file = saved(&session, &mut buffer);
-    print_replay(rt, &rest, calls.as_slice(), &packed::open(file).view)
+    match packed::open(saved(&session, &mut buffer)) {
+        Ok(view) => print_replay(rt, &rest, calls.as_slice(), &view),
+        Err(_) => println!(rt; "not saved"),
+    }
 }
 
 fn main(rt: HostRuntime) -> io::Result<()> {

@@ -6,7 +6,7 @@ use kind::Kind;
 
 // Zero, or something else: the sum is "or", the product is "and", and each is its own opposite. At controls that are all one, a
 // gradient over this kind says of each control whether the register depends on it.
-#[derive(Clone, Copy)]
+#[derive(Clone, Copy, PartialEq, Eq)]
 pub struct Dependence(pub bool);
 
 impl Kind for Dependence {

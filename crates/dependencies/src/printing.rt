@@ -1,36 +1,33 @@
 // Dependency patterns, printed and compared.
+use crate::asking::Answer;
 use crate::patterns::Dependence;
-use crate::rig::CONTROLS;
-use replay::Reply;
+use export::ExportFault;
+use replay::Finding;
 use std::io;
 
-fn print_pattern(rt: &HostRuntime, entries: &[Dependence; 128]) -> io::Result<()> {
-    let mut none = true;
-    for i in 0..CONTROLS {
-        if entries[i].0 {
-            if none {
-                print!(rt; "depends on controls")?;
-            }
-            print!(rt; " {i}")?;
-            none = false;
-        }
-    }
-    if none {
+fn print_pattern(rt: &HostRuntime, entries: &[Dependence]) -> io::Result<()> {
+    if !entries.iter().any(|entry| entry.0) {
         return println!(rt; "depends on no control");
+    }
+    print!(rt; "depends on controls")?;
+    for (i, entry) in entries.iter().enumerate() {
+        if entry.0 {
+            print!(rt; " {i}")?;
+        }
     }
     println!(rt; "")
 }
 
-pub fn print_reply(
+pub fn print_answer(
     rt: &HostRuntime,
     party: &str,
     register: usize,
-    reply: &Reply<Dependence>,
+    answer: &Answer,
 ) -> io::Result<()> {
     print!(rt; "  {party}: register {register} ")?;
-    match reply {
-        Reply::Gradient(_, entries, _) => print_pattern(rt, entries),
-        Reply::Declined(refusal) => {
+    match answer {
+        Ok(Finding::Gradient(_, entries, _)) => print_pattern(rt, entries.as_slice()),
+        Err(ExportFault::Query(refusal)) => {
             let number = refusal.number();
             println!(rt; "refused {number}")
         }
@@ -39,29 +36,8 @@ pub fn print_reply(
 }
 
 // The same pattern, or the same refusal.
-fn agree(one: &Reply<Dependence>, other: &Reply<Dependence>) -> bool {
-    match (one, other) {
-        (Reply::Gradient(_, xs, _), Reply::Gradient(_, ys, _)) => {
-            for i in 0..CONTROLS {
-                if xs[i].0 != ys[i].0 {
-                    return false;
-                }
-            }
-            true
-        }
-        (Reply::Declined(a), Reply::Declined(b)) => {
-            a.number() == b.number() && a.named() == b.named()
-        }
-        _ => false,
-    }
-}
-
-pub fn print_agreement(
-    rt: &HostRuntime,
-    one: &Reply<Dependence>,
-    other: &Reply<Dependence>,
-) -> io::Result<()> {
-    if agree(one, other) {
+pub fn print_agreement(rt: &HostRuntime, one: &Answer, other: &Answer) -> io::Result<()> {
+    if one == other {
         println!(rt; "  they agree")
     } else {
         println!(rt; "  they differ")

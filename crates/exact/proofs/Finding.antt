@@ -1,6 +1,7 @@
 -- The first of a list that passes a test, by a loop that goes along the list. Assumes nothing.
-use Rattle.std.proofs.Common.{◌≡◌, ℕ, zero, suc, ◌<◌, Bool, true, false, cond, leb, List, [], ◌∷◌, length, get_or, Some, None, Option, sym, refl, ap, ◌∙◌, ap₂, arith}
-use Rattle.tape.specs.Refusals.{Notice, cause, plain}
+use Rattle.std.proofs.lemmas.Bool.{le-leb, lt-leb}
+use Rattle.std.proofs.Common.{◌≤◌, ◌≡◌, ℕ, zero, suc, ◌<◌, Bool, true, false, cond, leb, List, [], ◌∷◌, length, get_or, Some, None, Option, refl, ap, ◌∙◌, ap₂, arith}
+use Rattle.tape.specs.Refusals.{Notice, cause, naming, plain}
 use Rattle.tape.specs.Tapes.{Tape, registers}
 use Rattle.exact.specs.Refusals.{Lengths, first, refuse_first, refuse_registers, too_short}
 
@@ -48,6 +49,20 @@ refused_at number test rs i why within before e = by (test (get_or rs i 0)) refl
     by true p e = ap (λ found. refuse_first number found None) (first_at test rs i within before p) ∙ e
     by false p e = let z : ◌≡◌ {A = ℕ} 0 1 = cc in absurd (omega arith)
 
--- where every register is known and no row is too short, there is no cause before the work
-pub no_cause : (t : Tape) (rows : Lengths) (tests : List ℕ) → first (leb (registers t)) tests ≡ None → false ≡ too_short t rows → refuse_registers t rows tests ≡ None
-no_cause t rows tests known room = ap₂ (λ found short. refuse_first 5 found (cause short (plain 2) None)) known (sym room)
+-- Why a call is declined before its work.
+module _ (t : Tape) (rows : Lengths) (tests : List ℕ) where
+  abbrev Known : ℕ → Type 0
+  Known n = (i : ℕ) → i < n → get_or tests i 0 < registers t
+
+  all_known : Known (length tests) → first (leb (registers t)) tests ≡ None
+  all_known known = first_none (leb (registers t)) tests (λ i h. lt-leb (registers t) _ (known i h))
+
+  pub unknown_register : (i : ℕ) → i < length tests → Known i → registers t ≤ get_or tests i 0 → refuse_registers t rows tests ≡ Some (naming 5 (get_or tests i 0))
+  unknown_register i within known here =
+      ap (λ found. refuse_first 5 found (cause (too_short t rows) (plain 2) None)) (first_at (leb (registers t)) tests i within (λ k h. lt-leb (registers t) _ (known k h)) (le-leb _ _ here))
+
+  pub short_row : Known (length tests) → too_short t rows ≡ true → refuse_registers t rows tests ≡ Some (plain 2)
+  short_row known short = ap₂ (λ found s. refuse_first 5 found (cause s (plain 2) None)) (all_known known) short
+
+  pub no_cause : Known (length tests) → too_short t rows ≡ false → refuse_registers t rows tests ≡ None
+  no_cause known short = ap₂ (λ found s. refuse_first 5 found (cause s (plain 2) None)) (all_known known) short

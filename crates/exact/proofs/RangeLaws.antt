@@ -1,11 +1,11 @@
 -- How tests narrow a range of steps, and what fixes a range. Assumes nothing.
-use Rattle.std.proofs.Common.{◌≡◌, ℕ, ◌+◌, ◌<◌, Bool, true, false, ℤ, pos, negsuc, ◌+ℤ◌, ◌*ℤ◌, neg_ℤ, ◌≤ℤ◌, ◌<ℤ◌, sym, refl, ap, ◌∙◌, subst, subst₂, arith, w64, to_z, of_z, below_more}
+use Rattle.std.proofs.Common.{◌≡◌, ℕ, ◌+◌, ◌<◌, Bool, true, false, ℤ, pos, ◌+ℤ◌, ◌*ℤ◌, neg_ℤ, ◌≤ℤ◌, ◌<ℤ◌, sym, refl, ap, ◌∙◌, subst, subst₂, arith, below_more}
 use mathlib.Core.Bool.{beq}
 use borrow.Author.Differences.{up, down}
 use lib.IntN.{+ℤ_idr, *ℤ-zero}
 use lib.Signed.{lt_z}
 use Rattle.std.specs.Int.{int_max, int_min}
-use Rattle.std.proofs.lemmas.Int.{clamps, ints, to_z-of_z}
+use Rattle.std.proofs.lemmas.Int.{clamps, ints}
 use Rattle.exact.specs.Narrowing.{Narrowed, Reaches}
 use Rattle.exact.specs.Ranges.{Between, Keeps, Range, Span}
 use Rattle.exact.proofs.TestLaws.{keeps_above, keeps_below, kept_above, kept_below, one_part}
@@ -73,17 +73,8 @@ module _ (v t : ℤ) (some : t ≡ pos 0 → ⊥) where
       by false true p q e = (λ h. absurd (omega (arith, ints)), λ h. omega (arith, ints))
       by false false p q e = let z : ◌≡◌ {A = ℕ} 0 1 = cc in absurd (omega arith)
 
--- A range of the steps that keep the first tests: none, one more, and all.
+-- A range of the steps that keep the first tests: one more, and all.
 module _ (v t : ℕ → ℤ) where
-  pub range_none : Range (λ s. (k : ℕ) → k < 0 → Keeps (v k) (t k) s) (negsuc 999999) (pos 1000000)
-  range_none = record {
-    low_in = record { from = omega (arith, ints); to = omega (arith, ints) };
-    high_in = record { from = omega (arith, ints); to = omega (arith, ints) };
-    stay = record { from = omega (arith, ints); to = omega (arith, ints) };
-    within = λ s h k n. elim n [ ];
-    only = λ s span h. record { from = span.from; to = span.to };
-  }
-
   pub range_more : (i : ℕ) (low high a b low' high' : ℤ) → Range (λ s. (k : ℕ) → k < i → Keeps (v k) (t k) s) low high → a ≡ v i → b ≡ t i
       → Narrowed low high a b low' high' → Range (λ s. (k : ℕ) → k < i + 1 → Keeps (v k) (t k) s) low' high'
   range_more i low high a b low' high' r p q narrow =
@@ -98,10 +89,6 @@ module _ (v t : ℕ → ℤ) where
 
   pub range_all : (i n : ℕ) (low high : ℤ) → i ≡ n → Range (λ s. (k : ℕ) → k < i → Keeps (v k) (t k) s) low high → Range (λ s. (k : ℕ) → k < n → Keeps (v k) (t k) s) low high
   range_all i n low high e r = subst (λ m. Range (λ s. (k : ℕ) → k < m → Keeps (v k) (t k) s) low high) e r
-
--- The ends of a range fit a word.
-pub span_fits : (z : ℤ) → Span z → to_z w64 (of_z w64 z) ≡ z
-span_fits z h = to_z-of_z w64 z (omega (arith, ints))
 
 -- A range is pinned: its ends are the lowest and the highest step of the property, whose neighbours outside lack it.
 module _ (P : ℤ → Type 0) (low high : ℤ) (r : Range P low high) where

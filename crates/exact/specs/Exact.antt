@@ -1,5 +1,5 @@
 -- What an exact answer is, and what the call leaves. Assumes nothing.
-use Rattle.std.specs.Prelude.{◌≡◌, ℕ, ◌-◌, List, [], ◌∷◌, length, Result}
+use Rattle.std.specs.Prelude.{◌≡◌, ℕ, ◌-◌, ◌<◌, false, List, [], ◌∷◌, length, Result, slice_index}
 use Rattle.kind.specs.declared.capped.Size.{Size}
 use Rattle.kind.specs.declared.dual.Pair.{Pair}
 use Rattle.kind.specs.declared.wrapping.Ticks.{Ticks}
@@ -11,7 +11,7 @@ use Rattle.sweep.specs.Forward.{Filled}
 use Rattle.tape.specs.declared.refusals.Refusal.{Refusal}
 use Rattle.tape.specs.Tapes.{registers}
 use Rattle.exact.specs.declared.answers.Whole.{Whole}
-use Rattle.exact.specs.Refusals.{AnsweredAfter, Lengths, refuse_registers, refuse_sizes}
+use Rattle.exact.specs.Refusals.{AnsweredAfter, Lengths, refuse_registers, refuse_sizes, too_short}
 use Rattle.exact.specs.Wholes.{Question, image_pair, images, whole_slope, whole_value}
 
 -- The two working rows.
@@ -24,6 +24,11 @@ work pairs sizes = record { pairs = pairs; sizes = sizes }
 
 abbrev pub lengths : Question → Work → Lengths
 lengths q w = record { controls = length q.controls; direction = length q.direction; pairs = length w.pairs; sizes = length w.sizes }
+
+-- every register of the list is one of the tape, and no row is too short
+pub record Admitted (q : Question) (tests : List ℕ) (w : Work) : Type 0 where
+  pub known : (i : ℕ) → i < length tests → slice_index tests i < registers q.tape
+  pub room : too_short q.tape (lengths q w) ≡ false
 
 -- a row has the pair of every register, from the images, and every later entry as it was
 abbrev pub FilledWhole : {K M : Type 0} → Operations M → (K → M) → Question → (old new : List (Pair K)) → Type 0

@@ -2,8 +2,9 @@
 #![tactic(auto)]
 
 pub mod answers;
-pub mod images;
 pub mod narrowing;
+pub mod questions;
+pub mod readings;
 pub mod stepping;
 pub mod theorems;
 pub mod wholes;

@@ -18,7 +18,7 @@ fn reach(whole: Whole) -> u64
     } else {
         whole.value.unsigned_abs()
     };
-    (slack / whole.slope.unsigned_abs()).min(1_000_000)
+    (slack / whole.slope.unsigned_abs()).min(SPAN as u64)
 }
 
 // The steps of a range that keep one more test.
@@ -35,12 +35,12 @@ pub(crate) fn narrow(range: StepRange, whole: Whole) -> StepRange
     if (whole.value > 0) == (whole.slope > 0) {
         StepRange {
             low: range.low.max(-far),
-            high: range.high,
+            ..range
         }
     } else {
         StepRange {
-            low: range.low,
             high: range.high.min(far),
+            ..range
         }
     }
 }

@@ -1,4 +1,5 @@
 // The queries of a file. The file is looked at first, and its fault comes before a query's refusal.
+// (Each query has rows and a contract of its own, so they are four functions.)
 ghost use Rattle.std.specs.Prelude.{◌≡◌, length};
 ghost use Rattle.packed.specs.Formats.{tape_of};
 ghost use Rattle.packed.specs.Looks.{fault_of};
@@ -23,15 +24,8 @@ pub fn value<K: Kind>(
         (row.new ≡ row.old)
         (Valued K.Kind.ops K.Kind.means (tape_of file.now) controls.now r row.old row.new) }
 {
-    let opened = open(file);
-    if let Some(fault) = opened.fault {
-        return Err(ExportFault::File(fault));
-    }
-    let view = opened.view;
-    match sweep::value(&view, controls, r, row) {
-        Ok(x) => Ok(x),
-        Err(refusal) => Err(ExportFault::Query(refusal)),
-    }
+    let view = open(file)?;
+    Ok(sweep::value(&view, controls, r, row)?)
 }
 
 // The slope of register r along a direction.
@@ -46,15 +40,8 @@ pub fn slope<K: Kind>(
         (row.new ≡ row.old)
         (Sloped K.Kind.ops K.Kind.means (tape_of file.now) controls.now direction.now r row.old row.new) }
 {
-    let opened = open(file);
-    if let Some(fault) = opened.fault {
-        return Err(ExportFault::File(fault));
-    }
-    let view = opened.view;
-    match sweep::slope(&view, controls, direction, r, row) {
-        Ok(x) => Ok(x),
-        Err(refusal) => Err(ExportFault::Query(refusal)),
-    }
+    let view = open(file)?;
+    Ok(sweep::slope(&view, controls, direction, r, row)?)
 }
 
 // The gradient of register r, in the first entries of the adjoint row.
@@ -69,15 +56,8 @@ pub fn gradient<K: Kind>(
         ((row.new ≡ row.old) × (adjoint.new ≡ adjoint.old))
         (Graded K.Kind.ops K.Kind.means (tape_of file.now) controls.now r row.old row.new adjoint.old adjoint.new) }
 {
-    let opened = open(file);
-    if let Some(fault) = opened.fault {
-        return Err(ExportFault::File(fault));
-    }
-    let view = opened.view;
-    match sweep::gradient(&view, controls, r, row, adjoint) {
-        Ok(answer) => Ok(answer),
-        Err(refusal) => Err(ExportFault::Query(refusal)),
-    }
+    let view = open(file)?;
+    Ok(sweep::gradient(&view, controls, r, row, adjoint)?)
 }
 
 // The bend of register r along a direction, in the first entries of `out`.
@@ -94,13 +74,6 @@ pub fn bend<K: Kind>(
         ((row.new ≡ row.old) × (adjoint.new ≡ adjoint.old) × (out.new ≡ out.old))
         (λ _. Bent K.Kind.ops K.Kind.means (tape_of file.now) controls.now direction.now r row.old row.new adjoint.old adjoint.new out.old out.new) }
 {
-    let opened = open(file);
-    if let Some(fault) = opened.fault {
-        return Err(ExportFault::File(fault));
-    }
-    let view = opened.view;
-    match sweep::bend(&view, controls, direction, r, row, adjoint, out) {
-        Ok(()) => Ok(()),
-        Err(refusal) => Err(ExportFault::Query(refusal)),
-    }
+    let view = open(file)?;
+    Ok(sweep::bend(&view, controls, direction, r, row, adjoint, out)?)
 }

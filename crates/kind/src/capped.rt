@@ -5,7 +5,7 @@ ghost use Rattle.kind.specs.Capped.{Capped, size_operations, size_laws, size, ca
 use crate::kinds::Kind;
 
 // A bound on the absolute value of something. It is its own opposite.
-#[derive(Clone, Copy)]
+#[derive(Clone, Copy, PartialEq, Eq)]
 pub struct Size(pub u64);
 
 impl Kind for Size {

@@ -4,7 +4,7 @@ ghost use Rattle.kind.specs.Dual.{Dual, dual_operations, dual_laws, dual};
 use crate::kinds::Kind;
 
 // A number and its tangent. Pairs over a kind are a kind again, pairs of pairs too.
-#[derive(Clone, Copy)]
+#[derive(Clone, Copy, PartialEq, Eq)]
 pub struct Pair<K> {
     pub value: K,
     pub tangent: K,

@@ -3,7 +3,8 @@ ghost use Rattle.std.specs.Prelude.{◌≡◌};
 ghost use Rattle.kind.specs.Kinds.{Operations, Laws};
 
 // A type of numbers whose operations never refuse. Two numbers are equal where their meanings are: a kind may have
-// several spellings of one number, and answer with any of them.
+// several spellings of one number, and answer with any of them. So no `==` belongs to a kind; that of a type below compares
+// numbers as they are held.
 pub trait Kind: Copy {
     ghost Meaning: { Type 0 };
 

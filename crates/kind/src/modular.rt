@@ -7,7 +7,8 @@ use crate::kinds::Kind;
 const PRIME: u64 = 2147483647;
 
 // A word that means its remainder of the prime. Each function answers the remainder itself.
-#[derive(Clone, Copy)]
+// Several words mean one number, and `==` tells them apart: it compares the words as they are held.
+#[derive(Clone, Copy, PartialEq, Eq)]
 pub struct Residue(pub u32);
 
 impl Kind for Residue {

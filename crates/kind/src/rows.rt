@@ -8,14 +8,9 @@ use crate::kinds::Kind;
 pub fn dot<K: Kind>(xs: &[K], ys: &[K]) -> K
     ensures { K.Kind.means result ≡ dot_product K.Kind.ops (map K.Kind.means xs.now) (map K.Kind.means ys.now) }
 {
-    let both = if xs.len() < ys.len() {
-        xs.len()
-    } else {
-        ys.len()
-    };
     let mut sum = K::zero();
-    for i in 0..both {
-        sum = sum.sum(xs[i].product(ys[i]));
+    for (x, y) in xs.iter().zip(ys) {
+        sum = sum.sum(x.product(*y));
     }
     sum
 }

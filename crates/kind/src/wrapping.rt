@@ -6,7 +6,7 @@ ghost use Rattle.kind.specs.Wrapping.{Word, tick_operations, tick_laws, tick};
 use crate::kinds::Kind;
 
 // A signed number of 64 bits whose operations wrap. It means its word of 64 bits.
-#[derive(Clone, Copy)]
+#[derive(Clone, Copy, PartialEq, Eq)]
 pub struct Ticks(pub i64);
 
 impl Kind for Ticks {

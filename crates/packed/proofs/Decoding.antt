@@ -3,6 +3,8 @@ use Rattle.std.proofs.Common.{◌≡◌, ℕ, zero, suc, ◌+◌, ◌-◌, ◌*�
 use lib.ListN.{length-replicate}
 use mir.Facts.{Fits-of_lt, sfits_to_z, of_z-to_z}
 use Rattle.std.specs.List.{flat_map, range_with_len}
+use Rattle.std.proofs.Math.Nat.{add-zero, div-one}
+use Rattle.std.proofs.Math.Seq.{take-add}
 use Rattle.std.proofs.lemmas.List.{drop-drop, take_all}
 use Rattle.std.proofs.lemmas.List.FromFn.{length-map-range_with_len, get_or-map-range_with_len}
 use Rattle.std.proofs.ByRecursion.{All-drop}
@@ -15,7 +17,7 @@ use Rattle.tape.specs.Tapes.{Tape, Valid, ConstantFits, ReadsBelow, ConstantsFit
 use Rattle.packed.specs.Bits.{bits, number, spread, field}
 use Rattle.packed.specs.Formats.{line_bits, tape_bits, Bytes, Packed, line_of, line_start, file_length, line_at, lines_in, tape_of}
 use Rattle.packed.proofs.Numbers.{length_bits, number_zeros, zeros_all, same_bits}
-use Rattle.packed.proofs.FieldLaws.{length_spread, spread_all, take_add, field_bits, field_lt, field_inside}
+use Rattle.packed.proofs.FieldLaws.{length_spread, spread_all, field_bits, field_lt, field_inside}
 use Rattle.packed.proofs.Looking.{Passing, Faultless}
 
 -- ---- constants
@@ -53,20 +55,14 @@ nth_line_in bytes m j h = get_or-map-range_with_len (λ (j : ℕ). line_at bytes
 
 -- ---- a line out of its 35 bits, by shifts and masks
 
-zero_more : (at : ℕ) → at + 0 ≡ at
-zero_more at = omega arith
-
-div_one : (x : ℕ) → x / 1 ≡ x
-div_one x = omega arith
-
 pub line_split : (bytes : List ℕ) (at w : ℕ) → at + 35 ≤ 8 * length bytes → w ≡ field bytes at 35
     → line_of (w / 4294967296 % 8) (w % 4294967296) (w / 65536 % 65536) (w % 65536) ≡ line_at bytes at
 line_split bytes at w within is =
     let kind : w / 4294967296 % 8 ≡ field bytes at 3
-    = ap (λ x. x / 4294967296 % 8) is ∙ field_inside bytes at 0 3 32 (omega arith) ∙ ap (λ k. field bytes k 3) (zero_more at) in
-    let whole : w % 4294967296 ≡ field bytes (at + 3) 32 = ap (λ x. x % 4294967296) (is ∙ sym (div_one _)) ∙ field_inside bytes at 3 32 0 (omega arith) in
+    = ap (λ x. x / 4294967296 % 8) is ∙ field_inside bytes at 0 3 32 (omega arith) ∙ ap (λ k. field bytes k 3) (add-zero at) in
+    let whole : w % 4294967296 ≡ field bytes (at + 3) 32 = ap (λ x. x % 4294967296) (is ∙ sym (div-one _)) ∙ field_inside bytes at 3 32 0 (omega arith) in
     let first : w / 65536 % 65536 ≡ field bytes (at + 3) 16 = ap (λ x. x / 65536 % 65536) is ∙ field_inside bytes at 3 16 16 (omega arith) in
-    let second : w % 65536 ≡ field bytes (at + 19) 16 = ap (λ x. x % 65536) (is ∙ sym (div_one _)) ∙ field_inside bytes at 19 16 0 (omega arith) in
+    let second : w % 65536 ≡ field bytes (at + 19) 16 = ap (λ x. x % 65536) (is ∙ sym (div-one _)) ∙ field_inside bytes at 19 16 0 (omega arith) in
     rw (kind, whole, first, second) (refl)
 
 -- ---- a line that passes
@@ -75,17 +71,16 @@ line_split bytes at w within is =
 abbrev pub Sound : ℕ → Line → Type 0
 Sound own l = Below own l × ConstantFits l
 
-both_below : (own a b : ℕ) → a < own → b < own → Below own (Add a b)
-both_below own a b p q = or_from (leb own a) (leb own b) (lt-leb own a p) (lt-leb own b q)
+-- a line of two registers
+two_sound : (own kind first second : ℕ) → Passing own kind first second → 0 < kind → kind < 4 → Sound own (Add first second)
+two_sound own kind first second p some few =
+    (or_from (leb own first) (leb own second) (lt-leb own first (p.below some)) (lt-leb own second (p.both some few)), (omega arith, omega arith))
 
 sound_of : (own kind whole first second : ℕ) → Passing own kind first second → whole < 2 ^ 32 → Sound own (line_of kind whole first second)
 sound_of own zero whole first second p small = (refl, in_range (to_z w32 whole) (sfits_to_z (Fits-of_lt small)))
-sound_of own (suc zero) whole first second p small =
-    (both_below own first second (p.below (omega arith)) (p.both (omega arith) (omega arith)), (omega arith, omega arith))
-sound_of own (suc (suc zero)) whole first second p small =
-    (both_below own first second (p.below (omega arith)) (p.both (omega arith) (omega arith)), (omega arith, omega arith))
-sound_of own (suc (suc (suc zero))) whole first second p small =
-    (both_below own first second (p.below (omega arith)) (p.both (omega arith) (omega arith)), (omega arith, omega arith))
+sound_of own (suc zero) whole first second p small = two_sound own 1 first second p (omega arith) (omega arith)
+sound_of own (suc (suc zero)) whole first second p small = two_sound own 2 first second p (omega arith) (omega arith)
+sound_of own (suc (suc (suc zero))) whole first second p small = two_sound own 3 first second p (omega arith) (omega arith)
 sound_of own (suc (suc (suc (suc k)))) whole first second p small = (lt-leb own first (p.below (omega arith)), (omega arith, omega arith))
 
 bits_of : (own kind whole first second : ℕ) → Passing own kind first second → whole < 2 ^ 32 → bits 32 whole ≡ bits 16 first ++ bits 16 second
@@ -108,7 +103,7 @@ module _ (bytes : List ℕ) (own at : ℕ) (within : at + 35 ≤ 8 * length byte
 
   two_parts : (from m n : ℕ) → part from (m + n) ≡ part from m ++ part (from + m) n
   unfolding part
-  two_parts from m n = take_add (drop from (spread bytes)) m n ∙ ap (λ bs. take m (drop from (spread bytes)) ++ take n bs) (drop-drop m from (spread bytes))
+  two_parts from m n = take-add m n (drop from (spread bytes)) ∙ ap (λ bs. take m (drop from (spread bytes)) ++ take n bs) (drop-drop m from (spread bytes))
 
   line_written : line_bits (line_at bytes at) ≡ take 35 (drop at (spread bytes))
   unfolding part
@@ -159,7 +154,7 @@ module _ (bytes : List ℕ) (p : Faultless bytes) where
       let long : 35 + 35 * m ≡ 35 * suc m = omega arith in
       ap₂ (λ l r. l ++ r) here (lines_written (a + 1) m (omega arith))
       ∙ ap (λ bs. take 35 (drop (line_start a) S) ++ take (35 * m) bs) (ap (λ k. drop k S) (sym next) ∙ sym (drop-drop 35 (line_start a) S))
-      ∙ sym (take_add (drop (line_start a) S) 35 (35 * m))
+      ∙ sym (take-add 35 (35 * m) (drop (line_start a) S))
       ∙ ap (λ k. take k (drop (line_start a) S)) long
 
   -- the bits past the last line
@@ -187,8 +182,8 @@ module _ (bytes : List ℕ) (p : Faultless bytes) where
       let count : bits 11 (length (tape_of bytes).lines) ≡ take 11 (drop 8 S) = ap (bits 11) (length_lines_in bytes m) ∙ field_bits bytes 8 11 (omega arith) in
       let lines : flat_map line_bits (tape_of bytes).lines ≡ take (35 * m) (drop 11 (drop 8 S)) = lines_written 0 m (omega arith) ∙ ap (take (35 * m)) (sym (drop-drop 11 8 S)) in
       let rest : bits 11 (length (tape_of bytes).lines) ++ flat_map line_bits (tape_of bytes).lines ≡ take (11 + 35 * m) (drop 8 S)
-      = ap₂ (λ c l. c ++ l) count lines ∙ sym (take_add (drop 8 S) 11 (35 * m)) in
-      ap₂ (λ h r. h ++ r) head rest ∙ sym (take_add S 8 (11 + 35 * m)) ∙ ap (λ k. take k S) whole
+      = ap₂ (λ c l. c ++ l) count lines ∙ sym (take-add 11 (35 * m) (drop 8 S)) in
+      ap₂ (λ h r. h ++ r) head rest ∙ sym (take-add 8 (11 + 35 * m) S) ∙ ap (λ k. take k S) whole
 
   pub packed_of : Bytes bytes → Packed (tape_of bytes) bytes
   packed_of fit =

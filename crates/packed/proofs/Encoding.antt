@@ -1,17 +1,19 @@
 -- What a write does to the bits so far. Assumes nothing.
-use Rattle.std.proofs.Common.{◌≡◌, ℕ, ◌+◌, ◌-◌, ◌*◌, ◌/◌, ◌%◌, ◌^◌, ◌<◌, ◌≤◌, Bool, true, false, ltb, List, [], ◌∷◌, ◌++◌, length, get_or, take, drop, set, replicate, pos, None, Ok, Err, sym, refl, ap, ◌∙◌, subst, ap₂, arith, length-append, pow-add}
+use Rattle.std.proofs.Common.{◌≡◌, ℕ, ◌+◌, ◌-◌, ◌*◌, ◌/◌, ◌%◌, ◌^◌, ◌<◌, ◌≤◌, Bool, true, false, ltb, List, [], ◌∷◌, ◌++◌, length, get_or, take, drop, set, replicate, pos, None, Err, sym, refl, ap, ◌∙◌, subst, ap₂, arith, length-append, pow-add}
 use lib.Arith.{digits_lt}
 use lib.Bits.{bit_and, bit_or}
-use Rattle.std.proofs.lemmas.Nat.{shl_whole, one_shl, or_shifted, and_mask}
-use Rattle.std.proofs.lemmas.List.{append_assoc, append-nil, take_more_set, drop-drop, drop-set-lt, length-take-le, take_more, flat_map_more}
+use Rattle.std.proofs.lemmas.Nat.{shr-shr, shl_whole, one_shl, or_shifted, and_mask}
+use borrow.Rule.Slice.PartMut.{put_mid}
+use Rattle.std.proofs.lemmas.Slice.{take-put_mid, drop-put_mid}
+use Rattle.std.proofs.lemmas.List.{append_assoc, append-nil, take_more_set, drop-drop, length-take-le, take_more, flat_map_more}
 use Rattle.std.proofs.ByRecursion.{All-take}
 use Rattle.std.specs.List.{flat_map}
 use Rattle.tape.specs.Tapes.{Tape, line}
-use Rattle.packed.specs.Formats.{Packed, line_bits, tape_bits, file_length}
+use Rattle.packed.specs.Formats.{Packed, line_start, line_bits, tape_bits, file_length}
 use Rattle.tape.specs.declared.lines.Line.{Line}
 use Rattle.tape.specs.declared.lines.Line.TheVariants.{Constant}
 use Rattle.packed.proofs.Decoding.{length_lines_bits}
-use Rattle.std.proofs.lemmas.Bool.{ltb-true, ltb-false}
+use Rattle.std.proofs.lemmas.Bool.{ltb-true}
 use Rattle.tape.specs.declared.refusals.Refusal.{Refusal}
 use Rattle.tape.specs.Refusals.{Answered, notice, plain, cause}
 use Rattle.packed.specs.Bits.{bits, spread}
@@ -20,29 +22,7 @@ use Rattle.packed.specs.declared.cursors.Cursor.{Cursor}
 use Rattle.packed.proofs.Numbers.{bits_split, bits_join, bits_zero, length_bits}
 use Rattle.packed.proofs.FieldLaws.{spread_append, byte_at, all_bytes}
 
--- the bits so far, before the pen's are fewer than eight
-abbrev pub bits_so_far : List ℕ → (at held word : ℕ) → List ℕ
-bits_so_far buf at held word = spread (take at buf) ++ bits held word
-
--- new bits after those that are held
-pub written_more : (buf : List ℕ) (at held word width value : ℕ) → value < 2 ^ width
-    → bits_so_far buf at (held + width) (word * 2 ^ width + value) ≡ bits_so_far buf at held word ++ bits width value
-written_more buf at held word width value small =
-    ap (λ bs. spread (take at buf) ++ bs) (bits_join held width word value small)
-    ∙ sym (append_assoc (spread (take at buf)) (bits held word) (bits width value))
-
--- a whole byte into the buffer
-pub written_byte : (buf : List ℕ) (at held word : ℕ) → at < length buf
-    → bits_so_far (set buf at (word / 2 ^ held)) (at + 1) held (word % 2 ^ held) ≡ bits_so_far buf at (8 + held) word
-unfolding spread
-written_byte buf at held word within =
-    let byte = word / 2 ^ held in
-    ap (λ bs. spread bs ++ bits held (word % 2 ^ held)) (take_more_set buf at byte within)
-    ∙ ap (λ bs. bs ++ bits held (word % 2 ^ held)) (spread_append (take at buf) (byte ∷ []) ∙ ap (λ bs. spread (take at buf) ++ bs) (append-nil (bits 8 byte)))
-    ∙ append_assoc (spread (take at buf)) (bits 8 byte) (bits held (word % 2 ^ held))
-    ∙ ap (λ bs. spread (take at buf) ++ bs) (sym (bits_split 8 held word))
-
--- ---- what `put` does with a word
+-- ---- what `put_bits` does with a word
 
 -- a value shifted in
 pub shifted_in : (held word width value : ℕ) → word < 2 ^ held → value < 2 ^ width → held + width ≤ 64
@@ -57,10 +37,36 @@ shifted_lt held word width value small fits = rw pow-add (digits_lt small fits)
 pub masked : (held word : ℕ) → held < 64 → bit_and word (1 * 2 ^ held % 2 ^ 64 - 1) ≡ word % 2 ^ held
 masked held word near = ap (λ m. bit_and word (m - 1)) (one_shl held 64 near) ∙ and_mask word held
 
--- what lies past a byte that is written
-pub rest_stays : (buf old : List ℕ) (at byte : ℕ) → drop at buf ≡ drop at old → drop (at + 1) (set buf at byte) ≡ drop (at + 1) old
-rest_stays buf old at byte same =
-    drop-set-lt (at + 1) buf at byte (omega arith) ∙ sym (drop-drop 1 at buf) ∙ ap (drop 1) same ∙ drop-drop 1 at old
+-- one byte more, of a word whose `above` low bits are to come
+pub byte_put : (bytes : List ℕ) (i above word : ℕ) → i < length bytes → spread (take i bytes) ≡ bits (8 * i) (word / 2 ^ (above + 8))
+    → spread (take (i + 1) (set bytes i (word / 2 ^ above % 2 ^ 8))) ≡ bits (8 * i + 8) (word / 2 ^ above)
+unfolding spread
+byte_put bytes i above word within is =
+    let high = word / 2 ^ above in
+    let byte = high % 2 ^ 8 in
+    ap spread (take_more_set bytes i byte within)
+    ∙ spread_append (take i bytes) (byte ∷ [])
+    ∙ ap₂ (λ f b. f ++ b) (is ∙ ap (bits (8 * i)) (sym (shr-shr word above 8))) (append-nil (bits 8 byte))
+    ∙ sym (bits_split (8 * i) 8 high)
+
+-- the whole bytes of a word into the buffer, and what is left of it to the cursor
+pub puts_word : (buf new : List ℕ) (p q : Cursor) (k width value : ℕ) → value < 2 ^ width → p.at + k ≤ length buf → length new ≡ k
+    → q.at ≡ p.at + k → 8 * k + q.held ≡ p.held + width
+    → spread new ≡ bits (8 * k) ((p.word * 2 ^ width + value) / 2 ^ q.held) → q.word ≡ (p.word * 2 ^ width + value) % 2 ^ q.held
+    → Puts buf p (put_mid p.at k buf new) q (bits width value)
+puts_word buf new p q k width value small room long ends size whole left =
+    let word = p.word * 2 ^ width + value in
+    let front = spread (take p.at buf) in
+    let bytes : spread (take q.at (put_mid p.at k buf new)) ≡ front ++ bits (8 * k) (word / 2 ^ q.held)
+    = ap spread (take-put_mid p.at k buf new q.at (omega arith) (omega arith)) ∙ spread_append (take p.at buf) new ∙ ap (λ bs. front ++ bs) whole in
+    record {
+      put = ap₂ (λ f b. f ++ b) bytes (ap (bits q.held) left)
+          ∙ append_assoc front (bits (8 * k) (word / 2 ^ q.held)) (bits q.held (word % 2 ^ q.held))
+          ∙ ap (λ bs. front ++ bs) (sym (bits_split (8 * k) q.held word) ∙ ap (λ n. bits n word) size ∙ bits_join p.held width p.word value small)
+          ∙ sym (append_assoc front (bits p.held p.word) (bits width value));
+      count = omega (arith, length_bits width value);
+      rest = drop-put_mid p.at k buf new q.at (omega arith) (omega arith) long;
+    }
 
 -- what is the same from m on is the same from a later place on
 pub drop_further : (m n : ℕ) (xs ys : List ℕ) → m ≤ n → drop m xs ≡ drop m ys → drop n xs ≡ drop n ys
@@ -114,26 +120,18 @@ lines_more t j l within is =
     ∙ flat_map_more line_bits [] (take j t.lines) (line t j)
     ∙ ap (flat_map line_bits) (sym (take_more t.lines j (Constant (pos 0)) within))
 
--- ---- what `save` answers
+-- the head and the lines before j end where line j starts
+pub lines_end : (a b c d : List ℕ) (p q r s : Cursor) (n m j : ℕ) (lines : List Line) → p.at ≡ 0 → p.held ≡ 0 → j ≤ length lines
+    → Puts a p b q (bits 8 n) → Puts b q c r (bits 11 m) → Puts c r d s (flat_map line_bits (take j lines)) → 8 * s.at + s.held ≡ line_start j
+lines_end a b c d p q r s n m j lines starts empty within f g h =
+    omega (arith, f.count, g.count, h.count, length_bits 8 n, length_bits 11 m, lines_count lines j within)
 
-module _ (same : Type 0) (done : ℕ → Type 0) where
-  roomy : (short : Bool) (size : ℕ) → Answered (cause short (plain 2) None) (Ok size) same done → (short ≡ false) × done size
-  roomy true size h = absurd h
-  roomy false size h = (refl, h)
-
-  too_short : (short : Bool) (e : Refusal) → Answered (cause short (plain 2) None) (Err e) same done → (short ≡ true) × (notice e ≡ plain 2) × same
-  too_short true e h = (refl, h.0, h.1)
-  too_short false e h = absurd h
-
-  pub save_done : (t : Tape) (room size : ℕ) → Answered (refuse_save t room) (Ok size) same done → (file_length (length t.lines) ≤ room) × done size
-  save_done t room size h =
-      let k = file_length (length t.lines) in
-      let parts = roomy (ltb room k) size h in
-      (ltb-false room k parts.0, parts.1)
-
-  pub save_declined : (t : Tape) (room : ℕ) (e : Refusal) → Answered (refuse_save t room) (Err e) same done
-      → (room < file_length (length t.lines)) × (notice e ≡ plain 2) × same
-  save_declined t room e h =
-      let k = file_length (length t.lines) in
-      let parts = too_short (ltb room k) e h in
-      (ltb-true room k parts.0, parts.1, parts.2)
+-- a save that is declined
+pub too_short : (same : Type 0) (done : ℕ → Type 0) (t : Tape) (room : ℕ) (e : Refusal) → Answered (refuse_save t room) (Err e) same done
+    → (room < file_length (length t.lines)) × (notice e ≡ plain 2) × same
+too_short same done t room e h = go (ltb room (file_length (length t.lines))) refl h
+  where
+    go : (short : Bool) → ltb room (file_length (length t.lines)) ≡ short → Answered (cause short (plain 2) None) (Err e) same done
+        → (room < file_length (length t.lines)) × (notice e ≡ plain 2) × same
+    go true is h = (ltb-true room (file_length (length t.lines)) is, h.0, h.1)
+    go false is h = absurd h

@@ -2,7 +2,6 @@ pub mod Numbers
 pub mod FieldLaws
 pub mod Looking
 pub mod Decoding
-pub mod Accepting
 pub mod Encoding
 pub mod RoundTrips
 pub mod Findings

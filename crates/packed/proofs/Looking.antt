@@ -66,11 +66,6 @@ module _ (bytes : List ℕ) where
       let left : m - j ≡ suc (m - (j + 1)) = omega arith in
       ap (fault_from each last j) left ∙ one_some each last j (m - (j + 1)) f (sym e)
 
-  pub lines_end : (controls j m : ℕ) → m ≤ j → m ≡ field bytes 8 11 → lines_from controls j m ≡ first_found (closing_looks bytes (line_start m))
-  lines_end controls j m past is =
-      let none : m - j ≡ 0 = omega arith in
-      ap (fault_from (line_looks bytes controls) last j) none ∙ ap (λ k. first_found (closing_looks bytes (line_start k))) (sym is)
-
 -- ---- a file whose head passes
 
 pub record Headed (bytes : List ℕ) : Type 0 where

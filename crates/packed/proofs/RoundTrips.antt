@@ -1,9 +1,10 @@
 -- A tape saved and read is that tape, and it has one file. Assumes nothing.
-use Rattle.std.proofs.Common.{◌≡◌, ℕ, ◌+◌, ◌-◌, ◌*◌, ◌^◌, ◌<◌, ◌≤◌, leb, List, [], ◌∷◌, ◌++◌, length, take, drop, replicate, pos, None, sym, refl, ap, ◌∙◌, ap₂, arith, length-append, take-append-drop, to_z-of_z, w32, to_z, of_z}
+use Rattle.std.proofs.Common.{◌≡◌, ℕ, ◌+◌, ◌-◌, ◌*◌, ◌^◌, ◌<◌, ◌≤◌, leb, List, [], ◌++◌, length, take, drop, replicate, pos, None, sym, refl, ap, ◌∙◌, ap₂, arith, length-append, take-append-drop, to_z-of_z, w32, to_z, of_z}
 use lib.ListN.{length-replicate}
 use mir.Facts.{Fits-of_z, Fits-lt-pow}
 use Rattle.std.specs.List.{flat_map}
 use Rattle.std.proofs.lemmas.Bool.{or_parts, leb-false}
+use Rattle.std.proofs.lemmas.Grind.{flat_map-append}
 use Rattle.std.proofs.lemmas.List.{append_assoc, take_at, drop_at, take_all, drop_more, length-take-le, ext_get_or}
 use Rattle.packed.specs.Bits.{bits, number, spread, field}
 use Rattle.tape.specs.Lines.{Below}
@@ -67,12 +68,21 @@ module _ (bytes pre post : List ℕ) (at own : ℕ) (long : length pre ≡ at) (
             (length-append (bits 3 kind) (bits 16 a) ∙ ap₂ (λ m n. m + n) (length_bits 3 kind) (length_bits 16 a)) fb,
       )
 
-  -- a line of two registers passes
-  passes : (kind a b : ℕ) → 0 < kind → kind < 4 → a < own → b < own
-      → (field bytes at 3 ≡ kind) × (field bytes (at + 3) 16 ≡ a) × (field bytes (at + 19) 16 ≡ b)
-      → Passing own (field bytes at 3) (field bytes (at + 3) 16) (field bytes (at + 19) 16)
-  passes kind a b some few pa pb (k, f, s) =
-      record { kinds = omega arith; below = λ h. omega arith; both = λ h h'. omega arith; spare = λ h. absurd (omega arith) }
+  -- a line of two registers
+  two_back : (kind a b : ℕ) (l : Line) → 0 < kind → kind < 4 → ((whole : ℕ) → line_of kind whole a b ≡ l) → Below own (Add a b)
+      → spread bytes ≡ pre ++ ((bits 3 kind ++ (bits 16 a ++ bits 16 b)) ++ post) → Back l
+  two_back kind a b l some few is_l below is =
+      let low = registers_below own a b below in
+      let pa = low.0 in
+      let pb = low.1 in
+      let got = registers_back kind a b (omega arith) (omega arith) (omega arith) is in
+      let k = got.0 in
+      let f = got.1 in
+      let s = got.2 in (
+        ap (λ n. line_of n (field bytes (at + 3) 32) (field bytes (at + 3) 16) (field bytes (at + 19) 16)) k
+            ∙ ap₂ (line_of kind (field bytes (at + 3) 32)) f s ∙ is_l (field bytes (at + 3) 32),
+        record { kinds = omega arith; below = λ h. omega arith; both = λ h h'. omega arith; spare = λ h. absurd (omega arith) },
+      )
 
   pub line_back : (l : Line) → Sound own l → spread bytes ≡ pre ++ (line_bits l ++ post) → Back l
   line_back (Constant z) (below, range) is =
@@ -84,30 +94,9 @@ module _ (bytes pre post : List ℕ) (at own : ℕ) (long : length pre ≡ at) (
         ap (λ n. line_of n (field bytes (at + 3) 32) (field bytes (at + 3) 16) (field bytes (at + 19) 16)) k ∙ ap (λ n. Constant (to_z w32 n)) w ∙ ap Constant (to_z-of_z fit),
         record { kinds = omega arith; below = λ h. absurd (omega arith); both = λ h h'. absurd (omega arith); spare = λ h. absurd (omega arith) },
       )
-  line_back (Add a b) (below, fit) is =
-      let low = registers_below own a b below in
-      let pa = low.0 in
-      let pb = low.1 in
-      let got = registers_back 1 a b (omega arith) (omega arith) (omega arith) is in (
-        ap (λ n. line_of n (field bytes (at + 3) 32) (field bytes (at + 3) 16) (field bytes (at + 19) 16)) got.0 ∙ ap₂ Add got.1 got.2,
-        passes 1 a b (omega arith) (omega arith) pa pb got,
-      )
-  line_back (Subtract a b) (below, fit) is =
-      let low = registers_below own a b below in
-      let pa = low.0 in
-      let pb = low.1 in
-      let got = registers_back 2 a b (omega arith) (omega arith) (omega arith) is in (
-        ap (λ n. line_of n (field bytes (at + 3) 32) (field bytes (at + 3) 16) (field bytes (at + 19) 16)) got.0 ∙ ap₂ Subtract got.1 got.2,
-        passes 2 a b (omega arith) (omega arith) pa pb got,
-      )
-  line_back (Multiply a b) (below, fit) is =
-      let low = registers_below own a b below in
-      let pa = low.0 in
-      let pb = low.1 in
-      let got = registers_back 3 a b (omega arith) (omega arith) (omega arith) is in (
-        ap (λ n. line_of n (field bytes (at + 3) 32) (field bytes (at + 3) 16) (field bytes (at + 19) 16)) got.0 ∙ ap₂ Multiply got.1 got.2,
-        passes 3 a b (omega arith) (omega arith) pa pb got,
-      )
+  line_back (Add a b) (below, fit) is = two_back 1 a b (Add a b) (omega arith) (omega arith) (λ whole. refl) below is
+  line_back (Subtract a b) (below, fit) is = two_back 2 a b (Subtract a b) (omega arith) (omega arith) (λ whole. refl) below is
+  line_back (Multiply a b) (below, fit) is = two_back 3 a b (Multiply a b) (omega arith) (omega arith) (λ whole. refl) below is
   line_back (Opposite a) (below, fit) is =
       let pa = leb-false own a below in
       let got = registers_back 4 a 0 (omega arith) (omega arith) (omega arith) is in
@@ -119,10 +108,6 @@ module _ (bytes pre post : List ℕ) (at own : ℕ) (long : length pre ≡ at) (
       )
 
 -- ---- a tape whose bits are known
-
-joined_append : (xs ys : List Line) → flat_map line_bits (xs ++ ys) ≡ flat_map line_bits xs ++ flat_map line_bits ys
-joined_append [] ys = refl
-joined_append (x ∷ xs) ys = ap (λ bs. line_bits x ++ bs) (joined_append xs ys) ∙ sym (append_assoc (line_bits x) (flat_map line_bits xs) (flat_map line_bits ys))
 
 module _ (t : Tape) (bytes : List ℕ) (kept : Valid t) (p : Packed t bytes) where
   zeros : List ℕ
@@ -159,7 +144,7 @@ module _ (t : Tape) (bytes : List ℕ) (kept : Valid t) (p : Packed t bytes) whe
       let n = bits 8 t.controls in
       let m = bits 11 (length t.lines) in
       let parts : flat_map line_bits t.lines ≡ front ++ (line ++ back)
-      = ap (flat_map line_bits) (sym (take-append-drop j t.lines)) ∙ joined_append (take j t.lines) (drop j t.lines)
+      = ap (flat_map line_bits) (sym (take-append-drop j t.lines)) ∙ flat_map-append line_bits (take j t.lines) (drop j t.lines)
       ∙ ap (λ ls. front ++ flat_map line_bits ls) (drop_more t.lines j (Constant (pos 0)) h) in
       p.2 ∙ ap (λ ls. (n ++ (m ++ ls)) ++ zeros) parts ∙ simp append_assoc
 

@@ -1,6 +1,7 @@
 pub mod Bits
 pub mod Formats
 pub mod Faults
+pub mod Kinds
 pub mod Looks
 pub mod Views
 pub mod Writing

@@ -1,11 +1,12 @@
 -- What a view means, and what is answered of a file. Assumes nothing.
-use Rattle.std.specs.Prelude.{◌≡◌, ℕ, ◌≤◌, List, [], Some, None, Option}
+use Rattle.std.specs.Prelude.{◌≡◌, ℕ, ◌≤◌, List, Some, None, Ok, Err, Result}
 use Rattle.std.proofs.Common.{sym, subst}
 use Rattle.tape.specs.Tapes.{Tape, Valid}
+use Rattle.packed.specs.declared.faults.FileFault.{FileFault}
 use Rattle.packed.specs.declared.views.View.{View}
-use Rattle.packed.specs.declared.opening.Opened.{Opened}
 use Rattle.packed.specs.Formats.{Packed, lines_in, tape_of}
-use Rattle.packed.specs.Faults.{Finding, found}
+use Rattle.packed.specs.Faults.{finding}
+use Rattle.packed.specs.Looks.{fault_of}
 
 abbrev pub view_tape : View → Tape
 view_tape v = record { controls = v.controls; lines = lines_in v.bytes.now v.count }
@@ -20,11 +21,7 @@ view_valid v = record {
   fit = v.fit;
 }
 
--- one control and no line: what a view of bytes that are no file means
-abbrev pub least_tape : Tape
-least_tape = record { controls = 1; lines = [] }
-
--- bytes without a fault are the packed file of the tape that the view means; else the fault is told
-abbrev pub Opens : Option Finding → List ℕ → Opened → Type 0
-Opens None bytes o = (found o.fault ≡ None) × (view_tape o.view ≡ tape_of bytes) × Packed (tape_of bytes) bytes
-Opens (Some what) bytes o = (found o.fault ≡ Some what) × (view_tape o.view ≡ least_tape)
+-- a file without a fault is the packed file of the tape that its view means; of any other the fault is told
+abbrev pub Opens : List ℕ → Result View FileFault → Type 0
+Opens bytes (Ok v) = (fault_of bytes ≡ None) × (view_tape v ≡ tape_of bytes) × Packed (tape_of bytes) bytes
+Opens bytes (Err e) = fault_of bytes ≡ Some (finding e)

@@ -3,7 +3,7 @@ ghost use Rattle.std.specs.Prelude.{◌^◌, ◌<◌};
 
 // `at` bytes of the buffer are whole, and the `held` low bits of `word`, fewer than eight, are to come.
 #[derive(Clone, Copy)]
-pub struct Cursor {
+pub(crate) struct Cursor {
     pub(crate) at: usize,
     pub(crate) held: usize,
     pub(crate) word: u64,

@@ -3,7 +3,7 @@ ghost use Rattle.std.specs.Prelude.{◌≡◌};
 ghost use Rattle.packed.specs.Faults.{finding};
 
 // What is wrong with one line.
-#[derive(Clone, Copy)]
+#[derive(Clone, Copy, PartialEq, Eq)]
 pub enum LineFault {
     // there is no such kind
     Kind,
@@ -13,7 +13,7 @@ pub enum LineFault {
     Spare,
 }
 
-#[derive(Clone, Copy)]
+#[derive(Clone, Copy, PartialEq, Eq)]
 pub enum FileFault {
     // the number of controls is not 1 to 128
     Controls,
@@ -70,9 +70,7 @@ impl FileFault {
         match self {
             FileFault::Controls => 0,
             FileFault::Lines => 8,
-            FileFault::Short(bit) => bit,
-            FileFault::Surplus(bit) => bit,
-            FileFault::Line(_, _, bit) => bit,
+            FileFault::Short(bit) | FileFault::Surplus(bit) | FileFault::Line(_, _, bit) => bit,
         }
     }
 }

@@ -1,58 +1,40 @@
 // The reader.
 ghost use Rattle.std.specs.Prelude.{◌≡◌, ◌+◌, ◌*◌, ◌/◌, ◌%◌, ◌^◌, ◌<◌, ◌≤◌, length};
 ghost use Rattle.packed.specs.Formats.{line_of, line_at};
-ghost use Rattle.packed.specs.Looks.{fault_of};
 ghost use Rattle.packed.specs.Views.{view_tape, view_valid, Opens};
 
-use crate::fields::{read_field, read_line};
-use crate::looks::file_fault;
-use crate::opening::Opened;
+use crate::faults::FileFault;
+use crate::fields::read_line;
+use crate::kinds::LineKind;
+use crate::looks::check;
 use crate::views::View;
 use tape::{Line, Refusal, Sheet};
 
 // Checks a file, and gives its view.
-pub fn open<'a>(bytes: &'a [u8]) -> Opened<'a>
-    ensures { Opens (fault_of bytes.now) bytes.now result }
+pub fn open(bytes: &[u8]) -> Result<View<'_>, FileFault>
+    ensures { Opens bytes.now result }
 {
-    match file_fault(bytes) {
-        Some(fault) => Opened {
-            view: View {
-                bytes,
-                controls: 1,
-                count: 0,
-            },
-            fault: Some(fault),
-        },
-        None => {
-            let controls = read_field(bytes, 0, 8) as usize;
-            let count = read_field(bytes, 8, 11) as usize;
-            Opened {
-                view: View {
-                    bytes,
-                    controls,
-                    count,
-                },
-                fault: None,
-            }
-        }
-    }
+    let (controls, count) = check(bytes)?;
+    Ok(View {
+        bytes,
+        controls,
+        count,
+    })
 }
 
-// The line that 35 bits write. (Divisions by powers of two compile to shifts and masks.)
+// The line that 35 bits write: a checked file has no kind past the last.
+// (Divisions by powers of two compile to shifts and masks.)
 fn split_line(word: u64) -> Line
     ensures { result ≡ line_of (word / 4294967296 % 8) (word % 4294967296) (word / 65536 % 65536) (word % 65536) }
 {
-    let kind = word / 4294967296 % 8;
-    if kind == 0 {
-        return Line::Constant(((word % 4294967296) as u32).cast_signed());
-    }
     let first = (word / 65536 % 65536) as u16;
     let second = (word % 65536) as u16;
-    match kind {
-        1 => Line::Add(first, second),
-        2 => Line::Subtract(first, second),
-        3 => Line::Multiply(first, second),
-        _ => Line::Opposite(first),
+    match LineKind::try_from(word / 4294967296 % 8).unwrap_or(LineKind::Opposite) {
+        LineKind::Constant => Line::Constant(((word % 4294967296) as u32).cast_signed()),
+        LineKind::Add => Line::Add(first, second),
+        LineKind::Subtract => Line::Subtract(first, second),
+        LineKind::Multiply => Line::Multiply(first, second),
+        LineKind::Opposite => Line::Opposite(first),
     }
 }
 

@@ -4,7 +4,6 @@ ghost use Rattle.tape.specs.Refusals.{Answered};
 ghost use Rattle.packed.specs.Writing.{refuse_save, Saved};
 
 use crate::cursors::Cursor;
-use crate::writing::{fill_byte, put_bits, put_line};
 use tape::{Refusal, Sheet};
 
 // Writes the packed file of the sheet's tape to the front of `buf`, and answers its length.
@@ -17,16 +16,17 @@ pub fn save<S: Sheet>(sheet: &S, buf: &mut [u8]) -> Result<usize, Refusal>
     if buf.len() < (19 + 35 * count + 7) / 8 {
         return Err(Refusal::Short);
     }
-    let start = Cursor {
+    let mut cursor = Cursor {
         at: 0,
         held: 0,
         word: 0,
     };
-    let cursor = put_bits(buf, start, 8, controls as u64);
-    let mut cursor = put_bits(buf, cursor, 11, count as u64);
+    cursor.put_bits(buf, 8, controls as u64);
+    cursor.put_bits(buf, 11, count as u64);
+    // (a sheet gives its lines by number)
     for j in 0..count {
-        cursor = put_line(buf, cursor, sheet.line(j).unwrap());
+        cursor.put_line(buf, sheet.line(j).unwrap());
     }
-    cursor = fill_byte(buf, cursor);
+    cursor.fill_byte(buf);
     Ok(cursor.at)
 }

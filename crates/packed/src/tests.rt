@@ -9,17 +9,11 @@ const TWO_PRODUCTS: [u8; 12] = [
 ];
 
 // The lines one after another, `times` over.
-fn table_of(controls: usize, lines: &[Line], times: usize) -> Result<Table, Fail> {
-    let mut table = match Table::new(controls) {
-        Ok(table) => table,
-        Err(_) => return Err(Fail::new("no table")),
-    };
+fn table_of(controls: usize, lines: &[Line], times: usize) -> Result<Table, Refusal> {
+    let mut table = Table::new(controls)?;
     for _ in 0..times {
         for line in lines {
-            table = match table.append(*line) {
-                Ok(table) => table,
-                Err(_) => return Err(Fail::new("a line was declined")),
-            };
+            table.append(*line)?;
         }
     }
     Ok(table)
@@ -33,17 +27,13 @@ fn declined(
     named: Option<usize>,
     bit: usize,
 ) -> Result<(), Fail> {
-    let opened = open(file);
-    assert_eq!(rt; opened.view.count(), 0);
-    match opened.fault {
-        Some(fault) => {
-            assert_eq!(rt; fault.number(), number);
-            assert_eq!(rt; fault.named(), named);
-            assert_eq!(rt; fault.bit(), bit);
-            Ok(())
-        }
-        None => Err(Fail::new("no fault was found")),
-    }
+    let Err(fault) = open(file) else {
+        return Err(Fail::new("no fault was found"));
+    };
+    assert_eq!(rt; fault.number(), number);
+    assert_eq!(rt; fault.named(), named);
+    assert_eq!(rt; fault.bit(), bit);
+    Ok(())
 }
 
 // So is the file of two products with byte i changed.
@@ -56,8 +46,8 @@ fn damaged(
     bit: usize,
 ) -> Result<(), Fail> {
     let mut file = TWO_PRODUCTS;
-    if i < 12 {
-        file[i] = byte;
+    if let Some(place) = file.get_mut(i) {
+        *place = byte;
     }
     declined(rt, &file, number, named, bit)
 }
@@ -89,7 +79,9 @@ fn lines_are_read(rt: HostRuntime) -> Result<(), Fail> {
     ];
     let mut buf = [0; 20];
     assert!(rt; save(&table_of(1, &lines, 1)?, &mut buf).is_ok());
-    let view = open(&buf).view;
+    let Ok(view) = open(&buf) else {
+        return Err(Fail::new("the file was declined"));
+    };
     assert!(rt; matches!(view.line(0), Ok(Line::Constant(-2147483648))));
     assert!(rt; matches!(view.line(1), Ok(Line::Add(0, 1))));
     assert!(rt; matches!(view.line(2), Ok(Line::Subtract(1, 2))));

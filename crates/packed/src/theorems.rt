@@ -7,34 +7,23 @@ use crate::reading::open;
 use crate::saving::save;
 
 // The accepted byte rows are exactly the files of tapes, one for each tape, and a fault is fixed by what is told of it.
-pub fn format_stands() -> u8
+pub fn format_stands()
     ensures back { ReadsBack }
     ensures only { OnlyFiles }
     ensures file { OneFile }
     ensures tape { OneTape }
     ensures fault { OneFault }
-{
-    0
-}
+{}
 
 // Three controls, `multiply 0 1`, `multiply 3 2`: its packed file, by computation.
-pub fn vector_stands() -> u8
+pub fn vector_stands()
     ensures { TwoProductsPacked }
-{
-    0
-}
+{}
 
 // Reads a file and saves the tape: the same bytes.
 pub fn copy_file(file: &[u8], buf: &mut [u8]) -> Result<usize, CopyFault>
     ensures { Copied file.now buf.old buf.new result }
 {
-    let opened = open(file);
-    if let Some(fault) = opened.fault {
-        return Err(CopyFault::File(fault));
-    }
-    let view = opened.view;
-    match save(&view, buf) {
-        Ok(size) => Ok(size),
-        Err(refusal) => Err(CopyFault::Buffer(refusal)),
-    }
+    let view = open(file)?;
+    Ok(save(&view, buf)?)
 }

@@ -9,6 +9,7 @@ ghost use Rattle.packed.specs.Formats.{line_start, lines_in};
 pub struct View<'a> {
     pub(crate) bytes: &'a [u8],
     pub(crate) controls: usize,
+    // read from the file: no length of `bytes`
     pub(crate) count: usize,
     ghost some: { 1 ≤ controls },
     ghost few: { controls ≤ 128 },

@@ -4,10 +4,11 @@ use crate::commands::Query;
 use crate::declines::Fault;
 use crate::exporting::ask_file;
 use crate::numbers::Number;
-use crate::replies::{Asked, Finding};
-use crate::rows::{CONTROLS, LONGEST, front, zeros};
+use crate::replies::Asked;
+use crate::rows::{LONGEST, zeros};
 use crate::tallies::Tally;
 use kind::Pair;
+use replay::Finding;
 use session::Session;
 use std::alloc::Global;
 
@@ -15,34 +16,40 @@ use std::alloc::Global;
 const LONGEST_FILE: usize = 4483;
 
 // The numbers of the session's controls.
-pub fn controls_of<K: Number>(
-    heap: Global,
-    session: &Session<'_, K>,
-    controls: usize,
-) -> Result<Vec<K>, Fault> {
-    let mut row: Vec<K> = zeros(heap, CONTROLS)?;
+pub fn controls_of<K: Number>(heap: Global, session: &Session<'_, K>) -> Result<Vec<K>, Fault> {
+    let mut row: Vec<K> = zeros(heap, session.control_count())?;
     session.controls(row.as_mut_slice())?;
-    Ok(front(heap, row.as_slice(), controls)?)
+    Ok(row)
 }
 
 // The packed file of the session's tape.
 pub fn file_of<K: Number>(heap: Global, session: &Session<'_, K>) -> Result<Vec<u8>, Fault> {
-    let mut buffer = [0; LONGEST_FILE];
-    let length = session.save(&mut buffer)?;
-    Ok(Vec::from_slice(heap, &buffer[0..length.min(LONGEST_FILE)])?)
+    let mut file = vec![in heap; 0; LONGEST_FILE]?;
+    let length = session.save(file.as_mut_slice())?;
+    file.truncate(length);
+    Ok(file)
+}
+
+// (Not replay's asking of a session: its answers have no count of the lines that were worked out.)
+
+fn value<K: Number>(session: &mut Session<'_, K>, r: usize) -> Result<Asked<K>, Fault> {
+    let answer = session.value(r)?;
+    Ok(Asked {
+        finding: Finding::Value(answer.value),
+        worked: answer.worked,
+    })
 }
 
 fn gradient<K: Number>(
     heap: Global,
     session: &mut Session<'_, K>,
-    controls: usize,
     r: usize,
 ) -> Result<Asked<K>, Fault> {
     let mut adjoint: Vec<K> = zeros(heap, LONGEST)?;
     let graded = session.gradient(r, adjoint.as_mut_slice())?;
-    let entries = front(heap, adjoint.as_slice(), controls)?;
+    adjoint.truncate(session.control_count());
     Ok(Asked {
-        finding: Finding::Gradient(entries, graded.value, graded.operations),
+        finding: Finding::Gradient(graded.value, adjoint, graded.operations),
         worked: graded.worked,
     })
 }
@@ -64,13 +71,12 @@ fn slope<K: Number>(
 fn bend<K: Number>(
     heap: Global,
     session: &Session<'_, K>,
-    controls: usize,
     direction: &[K],
     r: usize,
 ) -> Result<Asked<K>, Fault> {
     let mut pairs: Vec<Pair<K>> = zeros(heap, LONGEST)?;
     let mut adjoint: Vec<Pair<K>> = zeros(heap, LONGEST)?;
-    let mut out: Vec<K> = zeros(heap, CONTROLS)?;
+    let mut out: Vec<K> = zeros(heap, session.control_count())?;
     session.bend(
         r,
         direction,
@@ -79,7 +85,7 @@ fn bend<K: Number>(
         out.as_mut_slice(),
     )?;
     Ok(Asked {
-        finding: Finding::Bend(front(heap, out.as_slice(), controls)?),
+        finding: Finding::Bend(out),
         worked: 0,
     })
 }
@@ -87,20 +93,13 @@ fn bend<K: Number>(
 fn ask_session<K: Number>(
     heap: Global,
     session: &mut Session<'_, K>,
-    controls: usize,
     query: &Query<K>,
 ) -> Result<Asked<K>, Fault> {
     match query {
-        Query::Value(r) => {
-            let answer = session.value(*r)?;
-            Ok(Asked {
-                finding: Finding::Value(answer.value),
-                worked: answer.worked,
-            })
-        }
-        Query::Gradient(r) => gradient(heap, session, controls, *r),
+        Query::Value(r) => value(session, *r),
+        Query::Gradient(r) => gradient(heap, session, *r),
         Query::Slope(r, direction) => slope(heap, session, direction.as_slice(), *r),
-        Query::Bend(r, direction) => bend(heap, session, controls, direction.as_slice(), *r),
+        Query::Bend(r, direction) => bend(heap, session, direction.as_slice(), *r),
     }
 }
 
@@ -108,10 +107,9 @@ fn ask_session<K: Number>(
 fn ask_exporter<K: Number>(
     heap: Global,
     session: &Session<'_, K>,
-    controls: usize,
     query: &Query<K>,
 ) -> Result<Finding<K>, Fault> {
-    let numbers = controls_of(heap, session, controls)?;
+    let numbers = controls_of(heap, session)?;
     let file = file_of(heap, session)?;
     ask_file(heap, file.as_slice(), numbers.as_slice(), query)
 }
@@ -120,13 +118,13 @@ fn ask_exporter<K: Number>(
 pub fn ask<K: Number>(
     heap: Global,
     session: &mut Session<'_, K>,
-    controls: usize,
     query: &Query<K>,
     line: usize,
     tally: &mut Tally,
 ) -> Result<Asked<K>, Fault> {
-    let asked = ask_session(heap, session, controls, query);
-    let exported = ask_exporter(heap, session, controls, query);
+    let asked = ask_session(heap, session, query);
+    let exported = ask_exporter(heap, session, query);
+    // (want of memory is no answer; a refusal is one, and is compared)
     if let Err(Fault::Memory) = &exported {
         return Err(Fault::Memory);
     }

@@ -1,5 +1,6 @@
 // The commands of a script.
 use kind::Ticks;
+use session::Call;
 use tape::Line;
 
 // A number kind, by the name that a script has for it.
@@ -10,13 +11,25 @@ pub enum Choice {
     Sizes,
 }
 
-// What a session or an exporter is asked of a register. A direction is handed on as it is written.
+// What a session or an exporter is asked of a register. It owns what a script wrote; `replay::Query` borrows it. A direction is handed on as it is written.
 #[derive(Drop)]
 pub enum Query<K> {
     Value(usize),
     Gradient(usize),
     Slope(usize, Vec<K>),
     Bend(usize, Vec<K>),
+}
+
+impl<K: Copy> Query<K> {
+    // The same query, with its direction where it lies.
+    pub(crate) fn borrowed(&self) -> replay::Query<'_, K> {
+        match self {
+            Query::Value(r) => replay::Query::Value(*r),
+            Query::Gradient(r) => replay::Query::Gradient(*r),
+            Query::Slope(r, direction) => replay::Query::Slope(*r, direction.as_slice()),
+            Query::Bend(r, direction) => replay::Query::Bend(*r, direction.as_slice()),
+        }
+    }
 }
 
 // What is asked in whole numbers of an open session: the value and the slope of a register, or the steps along a direction that
@@ -27,7 +40,7 @@ pub enum WholeQuery {
     Steps(Vec<Ticks>, Vec<usize>),
 }
 
-// What is asked of an open session.
+// What is asked of an open session. It owns what a script wrote; `session::Call` borrows it.
 #[derive(Drop)]
 pub enum Step<K> {
     Set(usize, K),
@@ -38,6 +51,25 @@ pub enum Step<K> {
     Waiting,
     Controls,
     Save,
+}
+
+impl<K: Copy> Step<K> {
+    // The session's call.
+    pub(crate) fn call(&self) -> Call<'_, K> {
+        match self {
+            Step::Set(i, x) => Call::Set(*i, *x),
+            Step::Add(line) => Call::Add(*line),
+            Step::Change(register, line) => Call::Change(*register, *line),
+            Step::Drop => Call::Drop,
+            Step::Ask(Query::Value(r)) => Call::Value(*r),
+            Step::Ask(Query::Gradient(r)) => Call::Gradient(*r),
+            Step::Ask(Query::Slope(r, direction)) => Call::Slope(*r, direction.as_slice()),
+            Step::Ask(Query::Bend(r, direction)) => Call::Bend(*r, direction.as_slice()),
+            Step::Waiting => Call::Waiting,
+            Step::Controls => Call::Controls,
+            Step::Save => Call::Save,
+        }
+    }
 }
 
 // A session to be opened: the number of controls, the rest row, and the length of the register row.

@@ -2,17 +2,13 @@
 use crate::commands::Query;
 use crate::declines::Fault;
 use crate::numbers::Number;
-use crate::replies::Finding;
-use crate::rows::{CONTROLS, LONGEST, front, zeros};
-use kind::{Kind, Pair};
+use crate::rows::{CONTROLS, LONGEST, zeros};
+use kind::Pair;
+use replay::Finding;
 use std::alloc::Global;
 use tape::Sheet;
 
-// The controls of a file's tape.
-fn controls_of(file: &[u8]) -> usize {
-    let opened = packed::open(file);
-    opened.view.controls()
-}
+// (Not replay's asking of a file, which is its own: there the file is a session's, with a number for each control.)
 
 fn value<K: Number>(
     heap: Global,
@@ -33,15 +29,10 @@ fn gradient<K: Number>(
 ) -> Result<Finding<K>, Fault> {
     let mut row: Vec<K> = zeros(heap, LONGEST)?;
     let mut adjoint: Vec<K> = zeros(heap, LONGEST)?;
-    let answer = export::gradient(
-        file,
-        controls,
-        r,
-        row.as_mut_slice(),
-        adjoint.as_mut_slice(),
-    )?;
-    let entries = front(heap, adjoint.as_slice(), controls_of(file))?;
-    Ok(Finding::Gradient(entries, answer.value, answer.operations))
+    let (work, back) = (row.as_mut_slice(), adjoint.as_mut_slice());
+    let answer = export::gradient(file, controls, r, work, back)?;
+    adjoint.truncate(packed::open(file)?.controls());
+    Ok(Finding::Gradient(answer.value, adjoint, answer.operations))
 }
 
 fn slope<K: Number>(
@@ -75,8 +66,8 @@ fn bend<K: Number>(
         adjoint.as_mut_slice(),
         out.as_mut_slice(),
     )?;
-    let entries = front(heap, out.as_slice(), controls_of(file))?;
-    Ok(Finding::Bend(entries))
+    out.truncate(packed::open(file)?.controls());
+    Ok(Finding::Bend(out))
 }
 
 // What the exporter answers to a query.

@@ -4,7 +4,7 @@ ghost use Rattle.std.specs.Prelude.{◌≡◌, pos, MatchOption};
 use kind::{Kind, Residue, Size, Ticks};
 
 // A kind whose numbers a script can write.
-pub trait Number: Kind {
+pub trait Number: Kind + PartialEq {
     // The number that a word writes, if it is one and within the range of what holds it.
     fn read(word: &str) -> Option<Self>;
 
@@ -19,10 +19,7 @@ pub trait Number: Kind {
 
 impl Number for Ticks {
     fn read(word: &str) -> Option<Ticks> {
-        match word.parse::<i64>() {
-            Ok(x) => Some(Ticks(x)),
-            Err(_) => None,
-        }
+        word.parse().ok().map(Ticks)
     }
 
     fn held(self) -> i128
@@ -40,10 +37,7 @@ impl Number for Ticks {
 
 impl Number for Residue {
     fn read(word: &str) -> Option<Residue> {
-        match word.parse::<u32>() {
-            Ok(x) => Some(Residue(x)),
-            Err(_) => None,
-        }
+        word.parse().ok().map(Residue)
     }
 
     fn held(self) -> i128
@@ -55,10 +49,7 @@ impl Number for Residue {
 
 impl Number for Size {
     fn read(word: &str) -> Option<Size> {
-        match word.parse::<u64>() {
-            Ok(x) => Some(Size(x)),
-            Err(_) => None,
-        }
+        word.parse().ok().map(Size)
     }
 
     fn held(self) -> i128

@@ -5,6 +5,8 @@ use crate::numbers::Number;
 use crate::words;
 use std::alloc::Global;
 
+const EXPORT_FORM: Mistake<'static> = Mistake::Form("export QUERY R HEX C0 C1 .. : D0 D1 ..");
+
 // The kind that a line chooses, if it does.
 pub fn choice(words: &[&str]) -> Option<Choice> {
     match words {
@@ -18,17 +20,17 @@ pub fn choice(words: &[&str]) -> Option<Choice> {
 // Where the first word is none of a session's calls, there is no step.
 fn step<'a, K: Number>(heap: Global, words: &[&'a str]) -> Result<Option<Step<K>>, Mistake<'a>> {
     let step = match words {
-        ["set", i, x] => Step::Set(words::index(i)?, words::number(x)?),
+        ["set", i, x] => Step::Set(words::parsed(i)?, words::number(x)?),
         ["add", line @ ..] => Step::Add(words::line(line)?),
-        ["change", r, line @ ..] => Step::Change(words::index(r)?, words::line(line)?),
+        ["change", r, line @ ..] => Step::Change(words::parsed(r)?, words::line(line)?),
         ["drop"] => Step::Drop,
-        ["value", r] => Step::Ask(Query::Value(words::index(r)?)),
-        ["gradient", r] => Step::Ask(Query::Gradient(words::index(r)?)),
+        ["value", r] => Step::Ask(Query::Value(words::parsed(r)?)),
+        ["gradient", r] => Step::Ask(Query::Gradient(words::parsed(r)?)),
         ["slope", r, along @ ..] => {
-            Step::Ask(Query::Slope(words::index(r)?, words::row(heap, along)?))
+            Step::Ask(Query::Slope(words::parsed(r)?, words::row(heap, along)?))
         }
         ["bend", r, along @ ..] => {
-            Step::Ask(Query::Bend(words::index(r)?, words::row(heap, along)?))
+            Step::Ask(Query::Bend(words::parsed(r)?, words::row(heap, along)?))
         }
         ["waiting"] => Step::Waiting,
         ["controls"] => Step::Controls,
@@ -40,44 +42,32 @@ fn step<'a, K: Number>(heap: Global, words: &[&'a str]) -> Result<Option<Step<K>
 
 // The words before and after the first `:`, or none after where there is none.
 fn parts<'w, 'a>(words: &'w [&'a str]) -> (&'w [&'a str], &'w [&'a str]) {
-    for (i, word) in words.iter().enumerate() {
-        if *word == ":" {
-            return (&words[0..i], &words[i + 1..]);
-        }
+    match words.iter().position(|word| *word == ":") {
+        Some(i) => (&words[..i], &words[i + 1..]),
+        None => words.split_at(words.len()),
     }
-    (words, &[])
 }
 
 fn export<'a, K: Number>(heap: Global, words: &[&'a str]) -> Result<Export<K>, Mistake<'a>> {
-    match words {
-        ["value", r, hex, numbers @ ..] => Ok(Export {
-            query: Query::Value(words::index(r)?),
-            file: words::file(heap, hex)?,
-            controls: words::row(heap, numbers)?,
-        }),
-        ["gradient", r, hex, numbers @ ..] => Ok(Export {
-            query: Query::Gradient(words::index(r)?),
-            file: words::file(heap, hex)?,
-            controls: words::row(heap, numbers)?,
-        }),
-        ["slope", r, hex, numbers @ ..] => {
-            let (controls, along) = parts(numbers);
-            Ok(Export {
-                query: Query::Slope(words::index(r)?, words::row(heap, along)?),
-                file: words::file(heap, hex)?,
-                controls: words::row(heap, controls)?,
-            })
-        }
-        ["bend", r, hex, numbers @ ..] => {
-            let (controls, along) = parts(numbers);
-            Ok(Export {
-                query: Query::Bend(words::index(r)?, words::row(heap, along)?),
-                file: words::file(heap, hex)?,
-                controls: words::row(heap, controls)?,
-            })
-        }
-        _ => Err(Mistake::Form("export QUERY R HEX C0 C1 .. : D0 D1 .."))
-    }
+    let [name, r, hex, numbers @ ..] = words else {
+        return Err(EXPORT_FORM);
+    };
+    let (controls, along) = match *name {
+        "slope" | "bend" => parts(numbers),
+        _ => numbers.split_at(numbers.len()),
+    };
+    let query = match *name {
+        "value" => Query::Value(words::parsed(r)?),
+        "gradient" => Query::Gradient(words::parsed(r)?),
+        "slope" => Query::Slope(words::parsed(r)?, words::row(heap, along)?),
+        "bend" => Query::Bend(words::parsed(r)?, words::row(heap, along)?),
+        _ => return Err(EXPORT_FORM),
+    };
+    Ok(Export {
+        query,
+        file: words::file(heap, hex)?,
+        controls: words::row(heap, controls)?,
+    })
 }
 
 // How a command is written, by its first word.
@@ -122,12 +112,12 @@ pub fn parse<'a, K: Number>(
         ["help"] => Ok(Command::Help),
         ["room", length] => Ok(Command::Room(words::room(length)?)),
         ["open", n, rest @ ..] => Ok(Command::Open(Request {
-            controls: words::index(n)?,
+            controls: words::parsed(n)?,
             rest: words::row(heap, rest)?,
             room,
         })),
         ["exact", r, along @ ..] => {
-            let r = words::index(r)?;
+            let r = words::parsed(r)?;
             Ok(Command::Whole(WholeQuery::Exact(r, words::row(heap, along)?)))
         }
         ["steps", numbers @ ..] => {

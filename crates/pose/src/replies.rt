@@ -2,17 +2,8 @@
 use crate::commands::Choice;
 use crate::numbers::Number;
 use exact::{StepRange, Whole};
+use replay::Finding;
 use std::fmt;
-
-// What a query found.
-#[derive(Drop)]
-pub enum Finding<K> {
-    Value(K),
-    // the entries, the value and the backward operations
-    Gradient(Vec<K>, K, usize),
-    Slope(K),
-    Bend(Vec<K>),
-}
 
 // What a session found, and how many lines it worked out for that.
 #[derive(Drop)]
@@ -68,7 +59,7 @@ fn write_finding<K: Number, W: fmt::Write>(
             write!(f, "value {held}")?;
             write_lines(worked, f)
         }
-        Finding::Gradient(entries, x, operations) => {
+        Finding::Gradient(x, entries, operations) => {
             write!(f, "gradient")?;
             write_row(entries.as_slice(), f)?;
             let held = x.held();

@@ -1,5 +1,5 @@
 // Rows of numbers.
-ghost use Rattle.std.specs.Prelude.{◌≡◌, min, length, take, IfOk, vec_len};
+ghost use Rattle.std.specs.Prelude.{◌≡◌, IfOk, vec_len};
 
 use kind::Kind;
 use std::alloc::{AllocError, Global};
@@ -10,20 +10,9 @@ pub const LONGEST: usize = 1152;
 // The most controls.
 pub const CONTROLS: usize = 128;
 
-// A row of zeros.
+// A row of zeros. (replay has the same line for its own rows: no crate below both allocates.)
 pub fn zeros<K: Kind>(heap: Global, length: usize) -> Result<Vec<K>, AllocError>
     ensures { IfOk result (λ row. vec_len row ≡ length) }
 {
-    let mut row = Vec::new(heap);
-    for _ in 0..length {
-        row.push(K::zero())?;
-    }
-    Ok(row)
-}
-
-// The first numbers of a row, as many as it has.
-pub fn front<K: Kind>(heap: Global, row: &[K], n: usize) -> Result<Vec<K>, AllocError>
-    ensures { IfOk result (λ v. v.items ≡ take (min n (length row.now)) row.now) }
-{
-    Vec::from_slice(heap, &row[0..n.min(row.len())])
+    vec![in heap; K::zero(); length]
 }

@@ -3,104 +3,15 @@ use crate::commands::{Choice, Command, Request};
 use crate::entries::{Entry, read_entries};
 use crate::numbers::Number;
 use crate::parsing::choice;
-use crate::printing::print_reply;
-use crate::replaying::{Replays, replay_run};
-use crate::rows::{LONGEST, zeros};
+use crate::replaying::replay_run;
+use crate::rows::zeros;
+use crate::runner::Runner;
 use crate::script::{ScriptLine, read_lines};
-use crate::steps::{check_request, run_alone, take_step};
-use crate::tallies::Tally;
-use crate::wholes::run_whole;
+use crate::steps::check_request;
 use kind::{Residue, Size, Ticks};
 use session::{Opening, Session};
 use std::alloc::{AllocError, Global};
 use std::io;
-
-// Commands with a session open.
-fn run_session<K: Number>(
-    rt: &HostRuntime,
-    session: &mut Session<'_, K>,
-    controls: usize,
-    entries: &[Entry<'_, K>],
-    tally: &mut Tally,
-) -> io::Result<()> {
-    for entry in entries {
-        match &entry.command {
-            Ok(Command::Session(step)) => {
-                let line = entry.line;
-                let reply = take_step(rt.alloc(), session, controls, step, line, tally);
-                print_reply(rt, reply, tally)?;
-            }
-            Ok(Command::Whole(query)) => {
-                run_whole(rt, session, controls, query, entry.line, tally)?;
-            }
-            _ => run_alone(rt, entry, tally)?,
-        }
-    }
-    Ok(())
-}
-
-// Commands with no session open.
-fn run_without<K: Number>(
-    rt: &HostRuntime,
-    entries: &[Entry<'_, K>],
-    tally: &mut Tally,
-) -> io::Result<()> {
-    for entry in entries {
-        run_alone(rt, entry, tally)?;
-    }
-    Ok(())
-}
-
-// Replays a run that is over. It was opened in the script's line `line`.
-fn end_run<K: Replays>(
-    rt: &HostRuntime,
-    session: &Session<'_, K>,
-    line: usize,
-    request: &Request<K>,
-    entries: &[Entry<'_, K>],
-    tally: &mut Tally,
-) -> io::Result<()> {
-    match replay_run(rt.alloc(), request, entries, session) {
-        Ok(agreed) => Ok(tally.count_run(line, agreed)?),
-        Err(_) => Err(io::Error::from(AllocError)),
-    }
-}
-
-// A run: a session that was asked for, and the commands after.
-fn run_request<K: Replays>(
-    rt: &HostRuntime,
-    line: usize,
-    request: &Request<K>,
-    entries: &[Entry<'_, K>],
-    tally: &mut Tally,
-) -> io::Result<()> {
-    let mut row: Vec<K> = zeros(rt.alloc(), request.room)?;
-    let rest = request.rest.as_slice();
-    match Opening::new(request.controls, rest, row.as_slice()) {
-        Ok(opening) => {
-            let mut session = Session::open(opening, rest, row.as_mut_slice());
-            run_session(rt, &mut session, request.controls, entries, tally)?;
-            end_run(rt, &session, line, request, entries, tally)
-        }
-        Err(_) => run_without(rt, entries, tally),
-    }
-}
-
-// The commands from an `open` that is not declined to the next, or those before the first.
-fn run_entries<K: Replays>(
-    rt: &HostRuntime,
-    entries: &[Entry<'_, K>],
-    tally: &mut Tally,
-) -> io::Result<()> {
-    let Some((first, after)) = entries.split_first() else {
-        return Ok(());
-    };
-    run_alone(rt, first, tally)?;
-    match &first.command {
-        Ok(Command::Open(request)) => run_request(rt, first.line, request, after, tally),
-        _ => run_without(rt, after, tally),
-    }
-}
 
 // Whether a run begins here.
 fn begins<K: Number>(heap: Global, entry: &Entry<'_, K>) -> bool {
@@ -110,36 +21,98 @@ fn begins<K: Number>(heap: Global, entry: &Entry<'_, K>) -> bool {
     }
 }
 
-// The lines of one kind.
-fn run_kind<K: Replays>(
-    rt: &HostRuntime,
-    lines: &[ScriptLine<'_>],
-    room: &mut usize,
-    tally: &mut Tally,
-) -> io::Result<()> {
-    let entries: Vec<Entry<'_, K>> = read_entries(rt.alloc(), lines, room)?;
-    let all = entries.as_slice();
-    let mut from = 0;
-    for (at, entry) in all.iter().enumerate() {
-        if begins(rt.alloc(), entry) {
-            run_entries(rt, &all[from..at], tally)?;
-            from = at;
+impl<'r> Runner<'r> {
+    // Commands with a session open.
+    fn run_session<K: Number>(
+        &mut self,
+        session: &mut Session<'_, K>,
+        entries: &[Entry<'_, K>],
+    ) -> io::Result<()> {
+        for entry in entries {
+            match &entry.command {
+                Ok(Command::Session(step)) => {
+                    let reply = self.take_step(session, step, entry.line);
+                    self.print_reply(reply)?;
+                }
+                Ok(Command::Whole(query)) => self.run_whole(session, query, entry.line)?,
+                _ => self.run_alone(entry)?,
+            }
+        }
+        Ok(())
+    }
+
+    // Commands with no session open.
+    fn run_without<K: Number>(&mut self, entries: &[Entry<'_, K>]) -> io::Result<()> {
+        for entry in entries {
+            self.run_alone(entry)?;
+        }
+        Ok(())
+    }
+
+    // Replays a run that is over. It was opened in the script's line `line`.
+    fn end_run<K: Number>(
+        &mut self,
+        session: &Session<'_, K>,
+        line: usize,
+        request: &Request<K>,
+        entries: &[Entry<'_, K>],
+    ) -> io::Result<()> {
+        let heap = self.rt.alloc();
+        // (a session's file opens and its rows are long enough, so want of memory is all that can stop a replay)
+        let agreed = replay_run(heap, request, entries, session).map_err(|_| AllocError)?;
+        Ok(self.tally.count_run(line, agreed)?)
+    }
+
+    // A run: a session that was asked for, and the commands after.
+    fn run_request<K: Number>(
+        &mut self,
+        line: usize,
+        request: &Request<K>,
+        entries: &[Entry<'_, K>],
+    ) -> io::Result<()> {
+        let mut row: Vec<K> = zeros(self.rt.alloc(), request.room)?;
+        let rest = request.rest.as_slice();
+        let Ok(opening) = Opening::new(request.controls, rest, row.as_slice()) else {
+            return self.run_without(entries);
+        };
+        let mut session = Session::open(opening, rest, row.as_mut_slice());
+        self.run_session(&mut session, entries)?;
+        self.end_run(&session, line, request, entries)
+    }
+
+    // The commands from an `open` that is not declined to the next, or those before the first.
+    fn run_entries<K: Number>(&mut self, entries: &[Entry<'_, K>]) -> io::Result<()> {
+        let Some((first, after)) = entries.split_first() else {
+            return Ok(());
+        };
+        self.run_alone(first)?;
+        match &first.command {
+            Ok(Command::Open(request)) => self.run_request(first.line, request, after),
+            _ => self.run_without(after),
         }
     }
-    run_entries(rt, &all[from..], tally)
-}
 
-fn run_choice(
-    rt: &HostRuntime,
-    kind: Choice,
-    lines: &[ScriptLine<'_>],
-    room: &mut usize,
-    tally: &mut Tally,
-) -> io::Result<()> {
-    match kind {
-        Choice::Ticks => run_kind::<Ticks>(rt, lines, room, tally),
-        Choice::Residues => run_kind::<Residue>(rt, lines, room, tally),
-        Choice::Sizes => run_kind::<Size>(rt, lines, room, tally),
+    // The lines of one kind.
+    fn run_kind<K: Number>(&mut self, lines: &[ScriptLine<'_>]) -> io::Result<()> {
+        let heap = self.rt.alloc();
+        let entries: Vec<Entry<'_, K>> = read_entries(heap, lines, &mut self.room)?;
+        let all = entries.as_slice();
+        let mut from = 0;
+        for (at, entry) in all.iter().enumerate() {
+            if begins(heap, entry) {
+                self.run_entries(&all[from..at])?;
+                from = at;
+            }
+        }
+        self.run_entries(&all[from..])
+    }
+
+    fn run_choice(&mut self, kind: Choice, lines: &[ScriptLine<'_>]) -> io::Result<()> {
+        match kind {
+            Choice::Ticks => self.run_kind::<Ticks>(lines),
+            Choice::Residues => self.run_kind::<Residue>(lines),
+            Choice::Sizes => self.run_kind::<Size>(lines),
+        }
     }
 }
 
@@ -147,17 +120,17 @@ fn run_choice(
 pub fn run(rt: &HostRuntime, text: &str) -> io::Result<()> {
     let read = read_lines(rt.alloc(), text)?;
     let lines = read.as_slice();
-    let mut tally = Tally::new(rt.alloc());
-    let mut room = LONGEST;
+    let mut runner = Runner::new(rt);
     let mut kind = Choice::Ticks;
     let mut from = 0;
     for (at, line) in lines.iter().enumerate() {
         if let Some(next) = choice(line.words.as_slice()) {
-            run_choice(rt, kind, &lines[from..at], &mut room, &mut tally)?;
+            runner.run_choice(kind, &lines[from..at])?;
             from = at;
             kind = next;
         }
     }
-    run_choice(rt, kind, &lines[from..], &mut room, &mut tally)?;
+    runner.run_choice(kind, &lines[from..])?;
+    let tally = &runner.tally;
     println!(rt; "{tally}")
 }

@@ -7,10 +7,9 @@ use crate::exporting::ask_file;
 use crate::help::HELP;
 use crate::mistakes::Mistake;
 use crate::numbers::Number;
-use crate::printing::{print_mistake, print_reply};
 use crate::replies::Reply;
 use crate::rows::zeros;
-use crate::tallies::Tally;
+use crate::runner::Runner;
 use session::{Opening, Session};
 use std::alloc::Global;
 use std::io;
@@ -24,11 +23,8 @@ pub fn check_request<K: Number>(heap: Global, request: &Request<K>) -> Result<Re
 }
 
 fn load<K: Number>(file: &[u8]) -> Result<Reply<K>, Fault> {
-    let opened = packed::open(file);
-    if let Some(fault) = opened.fault {
-        return Err(Fault::Declined(Decline::of_file(fault)));
-    }
-    Ok(Reply::File(opened.view.controls(), opened.view.count()))
+    let view = packed::open(file)?;
+    Ok(Reply::File(view.controls(), view.count()))
 }
 
 fn answer_export<K: Number>(heap: Global, asked: &Export<K>) -> Result<Reply<K>, Fault> {
@@ -37,44 +33,59 @@ fn answer_export<K: Number>(heap: Global, asked: &Export<K>) -> Result<Reply<K>,
     Ok(Reply::Exported(finding))
 }
 
-// A command that is not for a session.
-pub fn run_alone<K: Number>(
-    rt: &HostRuntime,
-    entry: &Entry<'_, K>,
-    tally: &mut Tally,
-) -> io::Result<()> {
-    let heap = rt.alloc();
-    match &entry.command {
-        Err(mistake) => print_mistake(rt, entry.line, *mistake),
-        Ok(Command::Session(_) | Command::Whole(_)) => print_mistake(
-            rt,
-            entry.line,
-            Mistake::NoSession,
-        ),
-        Ok(Command::Help) => println!(rt; "{HELP}"),
-        Ok(Command::Kind(kind)) => println!(rt; "kind {kind}"),
-        Ok(Command::Room(length)) => println!(rt; "room {length}"),
-        Ok(Command::Open(request)) => print_reply(rt, check_request(heap, request), tally),
-        Ok(Command::Load(file)) => {
-            let reply: Result<Reply<K>, Fault> = load(file.as_slice());
-            print_reply(rt, reply, tally)
+impl<'r> Runner<'r> {
+    // A command that is not for a session.
+    pub(crate) fn run_alone<K: Number>(&mut self, entry: &Entry<'_, K>) -> io::Result<()> {
+        let heap = self.rt.alloc();
+        match &entry.command {
+            Err(mistake) => self.print_mistake(entry.line, *mistake),
+            Ok(Command::Session(_) | Command::Whole(_)) => {
+                self.print_mistake(entry.line, Mistake::NoSession)
+            }
+            Ok(Command::Help) => println!(self.rt; "{HELP}"),
+            Ok(Command::Kind(kind)) => println!(self.rt; "kind {kind}"),
+            Ok(Command::Room(length)) => println!(self.rt; "room {length}"),
+            Ok(Command::Open(request)) => self.print_reply(check_request(heap, request)),
+            Ok(Command::Load(file)) => {
+                let reply: Result<Reply<K>, Fault> = load(file.as_slice());
+                self.print_reply(reply)
+            }
+            Ok(Command::Export(asked)) => self.print_reply(answer_export(heap, asked)),
         }
-        Ok(Command::Export(asked)) => print_reply(rt, answer_export(heap, asked), tally),
+    }
+
+    // One call of a session. `at` is the line of the script.
+    pub(crate) fn take_step<K: Number>(
+        &mut self,
+        session: &mut Session<'_, K>,
+        step: &Step<K>,
+        at: usize,
+    ) -> Result<Reply<K>, Fault> {
+        let heap = self.rt.alloc();
+        match step {
+            Step::Set(i, x) => set(session, *i, *x),
+            Step::Add(line) => add(session, *line),
+            Step::Change(register, line) => change(session, *register, *line),
+            Step::Drop => {
+                session.drop_last()?;
+                Ok(Reply::Dropped)
+            }
+            Step::Ask(query) => Ok(Reply::Asked(ask(heap, session, query, at, &mut self.tally)?)),
+            Step::Waiting => Ok(Reply::Waiting(session.waiting())),
+            Step::Controls => Ok(Reply::Controls(controls_of(heap, session)?)),
+            Step::Save => Ok(Reply::Saved(file_of(heap, session)?)),
+        }
     }
 }
 
 fn set<K: Number>(session: &mut Session<'_, K>, i: usize, x: K) -> Result<Reply<K>, Fault> {
-    match session.set(i, x) {
-        Ok(()) => Ok(Reply::Set(i)),
-        Err(refusal) => Err(Fault::Declined(Decline::new(refusal, "no such control"))),
-    }
+    session.set(i, x).map_err(Decline::Control)?;
+    Ok(Reply::Set(i))
 }
 
 fn add<K: Number>(session: &mut Session<'_, K>, line: Line) -> Result<Reply<K>, Fault> {
-    match session.add(line) {
-        Ok(register) => Ok(Reply::Register(register)),
-        Err(refusal) => Err(Fault::Declined(Decline::of_line(refusal))),
-    }
+    let register = session.add(line).map_err(Decline::Line)?;
+    Ok(Reply::Register(register))
 }
 
 fn change<K: Number>(
@@ -82,32 +93,6 @@ fn change<K: Number>(
     register: usize,
     line: Line,
 ) -> Result<Reply<K>, Fault> {
-    match session.change(register, line) {
-        Ok(()) => Ok(Reply::Changed(register)),
-        Err(refusal) => Err(Fault::Declined(Decline::of_line(refusal))),
-    }
-}
-
-// One call of a session with so many controls. `at` is the line of the script.
-pub fn take_step<K: Number>(
-    heap: Global,
-    session: &mut Session<'_, K>,
-    controls: usize,
-    step: &Step<K>,
-    at: usize,
-    tally: &mut Tally,
-) -> Result<Reply<K>, Fault> {
-    match step {
-        Step::Set(i, x) => set(session, *i, *x),
-        Step::Add(line) => add(session, *line),
-        Step::Change(register, line) => change(session, *register, *line),
-        Step::Drop => {
-            session.drop_last()?;
-            Ok(Reply::Dropped)
-        }
-        Step::Ask(query) => Ok(Reply::Asked(ask(heap, session, controls, query, at, tally)?)),
-        Step::Waiting => Ok(Reply::Waiting(session.waiting())),
-        Step::Controls => Ok(Reply::Controls(controls_of(heap, session, controls)?)),
-        Step::Save => Ok(Reply::Saved(file_of(heap, session)?)),
-    }
+    session.change(register, line).map_err(Decline::Line)?;
+    Ok(Reply::Changed(register))
 }

@@ -31,22 +31,23 @@ impl Tally {
         }
     }
 
-    // A query of a session, in this line of the script, on which the exporter agreed, or did not.
-    pub fn count_query(&mut self, line: usize, agreed: bool) -> Result<(), AllocError> {
-        self.queries = self.queries.saturating_add(1);
+    fn compare(&mut self, line: usize, agreed: bool) -> Result<(), AllocError> {
         if !agreed {
             self.differ.push(line)?;
         }
         Ok(())
     }
 
+    // A query of a session, in this line of the script, on which the exporter agreed, or did not.
+    pub fn count_query(&mut self, line: usize, agreed: bool) -> Result<(), AllocError> {
+        self.queries = self.queries.saturating_add(1);
+        self.compare(line, agreed)
+    }
+
     // A run that was opened in this line, and replayed at its end.
     pub fn count_run(&mut self, line: usize, agreed: bool) -> Result<(), AllocError> {
         self.runs = self.runs.saturating_add(1);
-        if !agreed {
-            self.differ.push(line)?;
-        }
-        Ok(())
+        self.compare(line, agreed)
     }
 }
 

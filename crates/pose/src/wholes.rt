@@ -4,10 +4,9 @@ use crate::commands::WholeQuery;
 use crate::declines::Fault;
 use crate::mistakes::Mistake;
 use crate::numbers::Number;
-use crate::printing::{print_mistake, print_reply};
 use crate::replies::Reply;
 use crate::rows::{LONGEST, zeros};
-use crate::tallies::Tally;
+use crate::runner::Runner;
 use kind::{Pair, Size, Ticks};
 use session::Session;
 use std::alloc::Global;
@@ -18,15 +17,14 @@ use std::io;
 fn ask_whole<K: Number>(
     heap: Global,
     session: &Session<'_, K>,
-    controls: usize,
     query: &WholeQuery,
 ) -> Result<Option<Reply<K>>, Fault> {
-    let numbers = controls_of(heap, session, controls)?;
+    let numbers = controls_of(heap, session)?;
     let Some(ticks) = K::ticks(numbers.as_slice()) else {
         return Ok(None);
     };
     let file = file_of(heap, session)?;
-    let view = packed::open(file.as_slice()).view;
+    let view = packed::open(file.as_slice())?;
     let mut pairs: Vec<Pair<Ticks>> = zeros(heap, LONGEST)?;
     let mut sizes: Vec<Pair<Size>> = zeros(heap, LONGEST)?;
     let (pairs, sizes) = (pairs.as_mut_slice(), sizes.as_mut_slice());
@@ -43,22 +41,17 @@ fn ask_whole<K: Number>(
     }
 }
 
-// Stands alone, since the checker does not cover a mistake that is made right where it is passed on.
-fn ticks_only() -> Mistake<'static> {
-    Mistake::TicksOnly
-}
-
-// Asks, and prints the answer, or that the session is not in ticks. `line` is the script's line that asks.
-pub fn run_whole<K: Number>(
-    rt: &HostRuntime,
-    session: &Session<'_, K>,
-    controls: usize,
-    query: &WholeQuery,
-    line: usize,
-    tally: &mut Tally,
-) -> io::Result<()> {
-    match ask_whole(rt.alloc(), session, controls, query).transpose() {
-        Some(reply) => print_reply(rt, reply, tally),
-        None => print_mistake(rt, line, ticks_only()),
+impl<'r> Runner<'r> {
+    // Asks, and prints the answer, or that the session is not in ticks. `line` is the script's line that asks.
+    pub(crate) fn run_whole<K: Number>(
+        &mut self,
+        session: &Session<'_, K>,
+        query: &WholeQuery,
+        line: usize,
+    ) -> io::Result<()> {
+        match ask_whole(self.rt.alloc(), session, query).transpose() {
+            Some(reply) => self.print_reply(reply),
+            None => self.print_mistake(line, Mistake::TicksOnly),
+        }
     }
 }

@@ -8,32 +8,19 @@ use std::alloc::Global;
 use std::str::FromStr;
 use tape::Line;
 
-pub fn index(word: &str) -> Result<usize, Mistake<'_>> {
-    match word.parse::<usize>() {
-        Ok(i) => Ok(i),
-        Err(_) => Err(Mistake::Number(word)),
-    }
-}
-
-fn register(word: &str) -> Result<u16, Mistake<'_>> {
-    match word.parse::<u16>() {
-        Ok(r) => Ok(r),
-        Err(_) => Err(Mistake::Number(word)),
-    }
-}
-
-fn constant(word: &str) -> Result<i32, Mistake<'_>> {
-    match word.parse::<i32>() {
-        Ok(c) => Ok(c),
-        Err(_) => Err(Mistake::Number(word)),
-    }
+// The number that a word writes.
+pub(crate) fn parsed<T: FromStr>(word: &str) -> Result<T, Mistake<'_>>
+where
+    T::Err: Drop,
+{
+    word.parse().map_err(|_| Mistake::Number(word))
 }
 
 // The length of a register row.
 pub fn room(word: &str) -> Result<usize, Mistake<'_>>
     ensures { IfOk result (λ l. l ≤ 1152) }
 {
-    let length = index(word)?;
+    let length = parsed(word)?;
     if length > LONGEST {
         return Err(Mistake::Room(length));
     }
@@ -41,42 +28,46 @@ pub fn room(word: &str) -> Result<usize, Mistake<'_>>
 }
 
 pub fn number<K: Number>(word: &str) -> Result<K, Mistake<'_>> {
-    match K::read(word) {
-        Some(x) => Ok(x),
-        None => Err(Mistake::Number(word)),
+    K::read(word).ok_or(Mistake::Number(word))
+}
+
+// What each of the words writes, in their order.
+fn each<'a, T: Drop, F: Fn(&str) -> Option<T>>(
+    heap: Global,
+    words: &[&'a str],
+    read: F,
+) -> Result<Vec<T>, Mistake<'a>>
+    requires { F.IsAlwaysCallable read }
+    ensures { IfOk result (λ list. vec_len list ≡ length words.now) }
+{
+    let mut list = Vec::new(heap);
+    for word in words {
+        list.push(read(word).ok_or(Mistake::Number(word))?)?;
     }
+    Ok(list)
 }
 
 pub fn row<'a, K: Number>(heap: Global, words: &[&'a str]) -> Result<Vec<K>, Mistake<'a>>
     ensures { IfOk result (λ row. vec_len row ≡ length words.now) }
 {
-    let mut row = Vec::new(heap);
-    for word in words {
-        let x: K = number(word)?;
-        row.push(x)?;
-    }
-    Ok(row)
+    each(heap, words, |word| K::read(word))
 }
 
 // A list of registers.
 pub fn registers<'a>(heap: Global, words: &[&'a str]) -> Result<Vec<usize>, Mistake<'a>>
     ensures { IfOk result (λ list. vec_len list ≡ length words.now) }
 {
-    let mut list = Vec::new(heap);
-    for word in words {
-        list.push(index(word)?)?;
-    }
-    Ok(list)
+    each(heap, words, |word| word.parse().ok())
 }
 
 // A line of a tape.
 pub fn line<'a>(words: &[&'a str]) -> Result<Line, Mistake<'a>> {
     match words {
-        ["constant", x] => Ok(Line::Constant(constant(x)?)),
-        ["add", a, b] => Ok(Line::Add(register(a)?, register(b)?)),
-        ["subtract", a, b] => Ok(Line::Subtract(register(a)?, register(b)?)),
-        ["multiply", a, b] => Ok(Line::Multiply(register(a)?, register(b)?)),
-        ["opposite", a] => Ok(Line::Opposite(register(a)?)),
+        ["constant", x] => Ok(Line::Constant(parsed(x)?)),
+        ["add", a, b] => Ok(Line::Add(parsed(a)?, parsed(b)?)),
+        ["subtract", a, b] => Ok(Line::Subtract(parsed(a)?, parsed(b)?)),
+        ["multiply", a, b] => Ok(Line::Multiply(parsed(a)?, parsed(b)?)),
+        ["opposite", a] => Ok(Line::Opposite(parsed(a)?)),
         _ => Err(Mistake::Form("constant X, add A B, subtract A B, multiply A B or opposite A")),
     }
 }
@@ -104,10 +95,7 @@ pub fn file<'a>(heap: Global, word: &'a str) -> Result<Vec<u8>, Mistake<'a>> {
         let [high, low] = pair else {
             return Err(Mistake::Hex(word));
         };
-        match byte(*high, *low) {
-            Some(b) => bytes.push(b)?,
-            None => return Err(Mistake::Hex(word)),
-        }
+        bytes.push(byte(*high, *low).ok_or(Mistake::Hex(word))?)?;
     }
     Ok(bytes)
 }

@@ -20,8 +20,7 @@ use Rattle.tape.specs.Tapes.{Valid, registers}
 use Rattle.tape.specs.Values.{values}
 use Rattle.tape.proofs.Answering.{answered_as}
 use Rattle.replay.specs.declared.queries.Query.TheVariants as query
-use Rattle.replay.specs.declared.replies.Reply.TheVariants as reply
-use Rattle.replay.specs.Answers.{Replied, value}
+use Rattle.replay.specs.Answers.{Replied, gradient, value}
 use Rattle.replay.specs.Runs.{Steps}
 use Rattle.replay.proofs.Replying.{done, gradient_reply}
 
@@ -31,7 +30,7 @@ module _ {K M : Type 0} (o : Operations M) (means : K → M) (s s' : State K) (v
   own good = record { good = good; long = refl; entered = refl }
 
   pub value_says : Good o means s → (x : K) (worked : ℕ) → refuse_value s.tape (length s.row) k ≡ None → WasAsked o means s k x worked s'
-      → Replied o s.tape (given means s.tape s.row) means (query.Value k) (reply.Value x)
+      → Replied o s.tape (given means s.tape s.row) means (query.Value k) (value (means x))
   value_says good x worked free asked =
       let kept = own good in
       record {
@@ -44,10 +43,10 @@ module _ {K M : Type 0} (o : Operations M) (means : K → M) (s s' : State K) (v
       sweep_enters o means s s' (call.Gradient k) (λ _ _. refl) valid (refuse_backward s.tape (length s.row) (length old) k) k r (λ a. a.worked) (λ a. WasGraded o means s k old a s' new)
       (λ a d. d.asked.after) (answered_as _ r _ _ _ (λ p. p.0) h)
 
-  pub gradient_says : Laws o → Good o means s → (old new front : List K) (a : Graded K) → 1152 ≤ length old → length new ≡ length old → front ≡ take 128 new
+  pub gradient_says : Laws o → Good o means s → (old new entries : List K) (a : Graded K) → 1152 ≤ length old → length new ≡ length old → entries ≡ take s.tape.controls new
       → refuse_backward s.tape (length s.row) (length old) k ≡ None → WasGraded o means s k old a s' new
-      → Replied o s.tape (given means s.tape s.row) means (query.Gradient k) (reply.Gradient a.value front a.operations)
-  gradient_says laws good old new front a roomy same_length front_is free graded =
+      → Replied o s.tape (given means s.tape s.row) means (query.Gradient k) (gradient (means a.value) (map means entries) a.operations)
+  gradient_says laws good old new entries a roomy same_length first free graded =
       let t = s.tape in
       let N = registers t in
       let cs = given means t s.row in
@@ -64,7 +63,6 @@ module _ {K M : Type 0} (o : Operations M) (means : K → M) (s s' : State K) (v
       sym (take-take k (k + 1) (map means s'.row) (omega arith)) ∙ ap (take k) (sym kept_values) ∙ take-take k (k + 1) V (omega arith) in
       let law = transposes_same o t valid k known laws (map means s'.row) V (map means (take N new)) same graded.walked.adjoint.transposes in
       let part_is : length (take N new) ≡ N = length-take-le N new (omega arith) in
-      let begins : take t.controls front ≡ take t.controls (take N new) =
-      ap (take t.controls) front_is ∙ take-take t.controls 128 new few ∙ sym (take-take t.controls N new (omega arith)) in
-      gradient_reply o t cs means k a.value front a.operations free' (right_answer o means s s' (length s.row) (book o means s) kept k a.value a.worked valid swept graded.asked)
-      (gradient_of_row laws means t k known front (take N new) part_is begins cs law) graded.walked.operations_are
+      let begins : take t.controls new ≡ take t.controls (take N new) = sym (take-take t.controls N new (omega arith)) in
+      gradient_reply o t cs means k a.value new entries a.operations first free' (right_answer o means s s' (length s.row) (book o means s) kept k a.value a.worked valid swept graded.asked)
+      (gradient_of_row laws means t k known new (take N new) part_is begins cs law) graded.walked.operations_are

@@ -1,22 +1,22 @@
 -- What the definitions answer to a query of a tape at a control row, and what a party's reply means. Assumes nothing.
-use Rattle.std.specs.Prelude.{◌≡◌, ℕ, ◌*◌, ◌≤◌, Bool, false, List, map, length, Some, None, Option, nat_lt}
+use Rattle.std.specs.Prelude.{◌≡◌, ℕ, ◌*◌, ◌≤◌, Bool, false, List, map, length, Some, None, Ok, Err, Option, Result, nat_lt}
 use Rattle.std.specs.List.{range_with_len}
 use Rattle.export.specs.declared.faults.ExportFault.{ExportFault}
 use Rattle.export.specs.declared.faults.ExportFault.TheVariants.{File, Query as QueryFault}
 use Rattle.kind.specs.Kinds.{Operations}
 use Rattle.kind.specs.Rows.{dot_product}
 use Rattle.packed.specs.Faults.{Finding, finding}
-use Rattle.packed.specs.Looks.{fault_of}
 use Rattle.sweep.specs.Forward.{given}
 use Rattle.tape.specs.Derivatives.{derivatives, second_derivatives}
+use Rattle.tape.specs.declared.refusals.Refusal.{Refusal}
 use Rattle.tape.specs.Refusals.{Notice, notice, refuse_query}
 use Rattle.tape.specs.Rows.{at, unit}
 use Rattle.tape.specs.Tapes.{Tape}
 use Rattle.tape.specs.Values.{backward_count, evaluation_count, values}
 use Rattle.replay.specs.declared.queries.Query.{Query}
 use Rattle.replay.specs.declared.queries.Query.TheVariants.{Value, Gradient, Slope, Bend}
-use Rattle.replay.specs.declared.replies.Reply.{Reply}
-use Rattle.replay.specs.declared.replies.Reply.TheVariants as reply
+use Rattle.replay.specs.declared.findings.Finding.{Finding as TheFinding}
+use Rattle.replay.specs.declared.findings.Finding.TheVariants as found
 
 pub data Answer (M : Type 0) : Type 0 where
   value : (x : M) → Answer M
@@ -29,6 +29,25 @@ pub data Answer (M : Type 0) : Type 0 where
 abbrev pub unless_declined : {M : Type 0} → Option Notice → Answer M → Answer M
 unless_declined (Some why) a = declined why
 unless_declined None a = a
+
+-- what a party's answer means
+
+module _ {K M : Type 0} (means : K → M) where
+  abbrev pub meant : TheFinding K → Answer M
+  meant (found.Value x) = value (means x)
+  meant (found.Gradient x entries operations) = gradient (means x) (map means entries.items) operations
+  meant (found.Slope x) = slope (means x)
+  meant (found.Bend entries) = bend (map means entries.items)
+
+  abbrev pub said : Result (TheFinding K) Refusal → Answer M
+  said (Ok a) = meant a
+  said (Err e) = declined (notice e)
+
+  -- the exporter may also be handed bytes that are no file
+  abbrev pub exported : Result (TheFinding K) ExportFault → Answer M
+  exported (Ok a) = meant a
+  exported (Err (QueryFault e)) = declined (notice e)
+  exported (Err (File e)) = broken (finding e)
 
 module _ {M : Type 0} (o : Operations M) (t : Tape) (cs : List M) where
   abbrev pub value_of : (r : ℕ) → M
@@ -59,15 +78,6 @@ module _ {M : Type 0} (o : Operations M) (t : Tape) (cs : List M) where
     answer_of (Slope r d) = unless_declined (refuse_query t (short_direction d.now) r) (slope (derivative_of r (given means t d.now)))
     answer_of (Bend r d) = unless_declined (refuse_query t (short_direction d.now) r) (bend (bend_of r (given means t d.now)))
 
-    -- what a reply means, of which the first entries count
-    abbrev pub meant : Reply K → Answer M
-    meant (reply.Value x) = value (means x)
-    meant (reply.Gradient x entries operations) = gradient (means x) (given means t entries) operations
-    meant (reply.Slope x) = slope (means x)
-    meant (reply.Bend entries) = bend (given means t entries)
-    meant (reply.Declined e) = declined (notice e)
-    meant (reply.Broken e) = broken (finding e)
-
     -- times any direction a gradient is the derivative along it, at no more than four times the evaluation's operations
     abbrev pub LawfulGradient : (r : ℕ) → Answer M → Type 0
     LawfulGradient r (value x) = Unit {0}
@@ -94,16 +104,7 @@ module _ {M : Type 0} (o : Operations M) (t : Tape) (cs : List M) where
     Lawful (Slope r d) a = Unit {0}
     Lawful (Bend r d) a = LawfulBend r (given means t d.now) a
 
-    -- the reply is what the definitions answer, and keeps the laws
-    pub record Replied (q : Query K) (a : Reply K) : Type 0 where
-      pub says : meant a ≡ answer_of q
-      pub lawful : Lawful q (meant a)
-
--- what holds of bytes that are the packed file of a tape
-abbrev pub Reads : List ℕ → Type 0 → Type 0
-Reads file holds = fault_of file ≡ None → holds
-
--- an export that was declined, as a reply
-abbrev pub fault_reply : {K : Type 0} → ExportFault → Reply K
-fault_reply (QueryFault e) = reply.Declined e
-fault_reply (File e) = reply.Broken e
+    -- the answer is what the definitions answer, and keeps the laws
+    pub record Replied (q : Query K) (a : Answer M) : Type 0 where
+      pub says : a ≡ answer_of q
+      pub lawful : Lawful q a

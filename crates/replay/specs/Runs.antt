@@ -1,14 +1,10 @@
--- What a call of a run keeps, and what a session replies. Assumes nothing.
+-- What a call of a run keeps. Assumes nothing.
 use Rattle.std.specs.Prelude.{ℕ, List, fold}
 use Rattle.kind.specs.Kinds.{Operations}
 use Rattle.session.specs.Books.{Book, feed}
 use Rattle.session.specs.declared.calls.Call.{Call}
-use Rattle.session.specs.Runs.{Good, Keeps}
+use Rattle.session.specs.Runs.{Keeps}
 use Rattle.session.specs.States.{State}
-use Rattle.sweep.specs.Forward.{given}
-use Rattle.replay.specs.declared.queries.Query.{Query}
-use Rattle.replay.specs.declared.replies.Reply.{Reply}
-use Rattle.replay.specs.Answers.{Replied}
 
 module _ {K M : Type 0} (o : Operations M) (means : K → M) where
   -- a session in order, whose book is b, is in order after the call, and its book is b with the call entered
@@ -18,7 +14,3 @@ module _ {K M : Type 0} (o : Operations M) (means : K → M) where
   -- the same of all the calls of a run
   abbrev pub Ran : List (Call K) → State K → State K → Type 0
   Ran calls s s' = (room : ℕ) (b : Book M) → Keeps o means room b s → Keeps o means room (fold (feed means room) b calls) s'
-
-  -- a session in order replies what the definitions answer for its tape and controls
-  abbrev pub SessionReplied : State K → Query K → Reply K → Type 0
-  SessionReplied s q a = Good o means s → Replied o s.tape (given means s.tape s.row) means q a

@@ -1,28 +1,46 @@
 // What a replayed run answers.
-use crate::replies::Reply;
+ghost use Rattle.replay.specs.declared.outcomes.ReplayFault.TheVariants.{Declined as WasDeclined, Memory as NoMemory};
+ghost use Rattle.std.specs.Prelude.{◌≡◌};
+
+use crate::findings::Finding;
+use export::ExportFault;
+use std::alloc::AllocError;
 use tape::Refusal;
 
 // The final query as both parties answer it, with what the exporter was handed.
-#[derive(Clone, Copy)]
+#[derive(Drop)]
 pub struct Outcome<K> {
-    // the session's reply
-    pub session: Reply<K>,
-    // the exporter's, from the saved file and the controls
-    pub from_file: Reply<K>,
+    pub session: Result<Finding<K>, Refusal>,
+    // the exporter's answer, from the saved file and the controls
+    pub from_file: Result<Finding<K>, ExportFault>,
     // the exporter's, over the sheet that the caller brought
-    pub on_sheet: Reply<K>,
-    // the controls, copied out: the first n count
-    pub controls: [K; 128],
-    // the saved file, in the first bytes
-    pub file: [u8; 4483],
-    pub length: usize,
+    pub on_sheet: Result<Finding<K>, Refusal>,
+    // the numbers of the controls, copied out
+    pub controls: Vec<K>,
+    pub file: Vec<u8>,
 }
 
 // Why there is no outcome.
-#[derive(Clone, Copy)]
+#[derive(Clone, Copy, PartialEq, Eq)]
 pub enum ReplayFault {
     // the session was not opened
     Declined(Refusal),
-    // there is no memory for the working rows
+    // there is no memory for the rows
     Memory,
+}
+
+impl From<Refusal> for ReplayFault {
+    ghost from_gives = { λ refusal fault. fault ≡ WasDeclined refusal };
+
+    fn from(refusal: Refusal) -> ReplayFault {
+        ReplayFault::Declined(refusal)
+    }
+}
+
+impl From<AllocError> for ReplayFault {
+    ghost from_gives = { λ _ fault. fault ≡ NoMemory };
+
+    fn from(_error: AllocError) -> ReplayFault {
+        ReplayFault::Memory
+    }
 }

@@ -1,4 +1,4 @@
-// A query of a register, as data.
+// A query of a register, as data. (A session's calls are another type, with a case for each method.)
 #[derive(Clone, Copy)]
 pub enum Query<'a, K> {
     Value(usize),

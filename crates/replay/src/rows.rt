@@ -1,28 +1,40 @@
-// Working rows of a length that is asked for.
-ghost use Rattle.std.specs.Prelude.{◌≡◌, ◌≤◌, length, take, IfOk, vec_len};
+// The rows that queries work in.
+ghost use Rattle.std.specs.Prelude.{◌≡◌, IfOk, vec_len};
 
-use kind::Kind;
+use kind::{Kind, Pair};
 use std::alloc::{AllocError, Global};
 
-// A row of n entries.
-pub(crate) fn row_of<T: Copy>(heap: Global, x: T, n: usize) -> Result<Vec<T>, AllocError>
-    ensures { IfOk result (λ v. vec_len v ≡ n) }
-{
-    let mut row = Vec::new(heap);
-    for _ in 0..n {
-        row.push(x)?;
-    }
-    Ok(row)
+// A number for each register of the longest tape.
+const LONGEST: usize = 1152;
+
+// The length of the longest packed file.
+pub(crate) const LONGEST_FILE: usize = 4483;
+
+#[derive(Drop)]
+pub(crate) struct Rows<K> {
+    pub(crate) row: Vec<K>,
+    pub(crate) adjoint: Vec<K>,
+    pub(crate) pairs: Vec<Pair<K>>,
+    pub(crate) adjoint_pairs: Vec<Pair<K>>,
+    ghost row_long: { vec_len row ≡ 1152 },
+    ghost adjoint_long: { vec_len adjoint ≡ 1152 },
+    ghost pairs_long: { vec_len pairs ≡ 1152 },
+    ghost adjoint_pairs_long: { vec_len adjoint_pairs ≡ 1152 },
 }
 
-// The first 128 entries of a row.
-pub(crate) fn front<K: Kind>(row: &[K]) -> [K; 128]
-    requires { 128 ≤ length row.now }
-    ensures { result ≡ take 128 row.now }
-{
-    let mut entries = [K::zero(); 128];
-    for i in 0..128 {
-        entries[i] = row[i];
+impl<K: Kind> Rows<K> {
+    pub(crate) fn new(heap: Global) -> Result<Rows<K>, AllocError> {
+        Ok(Rows {
+            row: zeros(heap, LONGEST)?,
+            adjoint: zeros(heap, LONGEST)?,
+            pairs: zeros(heap, LONGEST)?,
+            adjoint_pairs: zeros(heap, LONGEST)?,
+        })
     }
-    entries
+}
+
+pub(crate) fn zeros<K: Kind>(heap: Global, length: usize) -> Result<Vec<K>, AllocError>
+    ensures { IfOk result (λ row. vec_len row ≡ length) }
+{
+    vec![in heap; K::zero(); length]
 }

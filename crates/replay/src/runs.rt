@@ -4,10 +4,12 @@ ghost use Rattle.session.specs.States.{state};
 ghost use Rattle.std.specs.Prelude.{OnOk};
 ghost use Rattle.replay.specs.Runs.{Steps, Ran};
 
-use crate::rows::row_of;
-use kind::{Kind, Pair};
+use crate::rows::{LONGEST_FILE, Rows, zeros};
+use kind::Kind;
 use session::{Call, Session};
 use std::alloc::{AllocError, Global};
+
+// (Not by the party's methods: they promise an answer, and nothing of the state after.)
 
 fn make_gradient<K: Kind>(
     heap: Global,
@@ -16,7 +18,7 @@ fn make_gradient<K: Kind>(
 ) -> Result<(), AllocError>
     ensures { Steps K.Kind.ops K.Kind.means (call.Gradient register) (state session.old) (state session.new) }
 {
-    let mut adjoint = row_of(heap, K::zero(), 1152)?;
+    let Rows { mut adjoint, .. } = Rows::new(heap)?;
     let _ = session.gradient(register, adjoint.as_mut_slice());
     Ok(())
 }
@@ -29,11 +31,7 @@ fn make_slope<K: Kind>(
     register: usize,
     direction: &[K],
 ) -> Result<(), AllocError> {
-    let pair = Pair {
-        value: K::zero(),
-        tangent: K::zero(),
-    };
-    let mut pairs = row_of(heap, pair, 1152)?;
+    let Rows { mut pairs, .. } = Rows::new(heap)?;
     let _ = session.slope(register, direction, pairs.as_mut_slice());
     Ok(())
 }
@@ -44,31 +42,30 @@ fn make_bend<K: Kind>(
     register: usize,
     direction: &[K],
 ) -> Result<(), AllocError> {
-    let pair = Pair {
-        value: K::zero(),
-        tangent: K::zero(),
-    };
-    let mut pairs = row_of(heap, pair, 1152)?;
-    let mut adjoint = row_of(heap, pair, 1152)?;
-    let mut out = row_of(heap, K::zero(), 128)?;
+    let Rows {
+        mut row,
+        mut pairs,
+        mut adjoint_pairs,
+        ..
+    } = Rows::new(heap)?;
     let _ = session.bend(
         register,
         direction,
         pairs.as_mut_slice(),
-        adjoint.as_mut_slice(),
-        out.as_mut_slice(),
+        adjoint_pairs.as_mut_slice(),
+        row.as_mut_slice(),
     );
     Ok(())
 }
 
 fn make_controls<K: Kind>(heap: Global, session: &Session<K>) -> Result<(), AllocError> {
-    let mut out = row_of(heap, K::zero(), 128)?;
+    let mut out = zeros(heap, session.control_count())?;
     let _ = session.controls(out.as_mut_slice());
     Ok(())
 }
 
 fn make_save<K: Kind>(session: &Session<K>) {
-    let mut file = [0u8; 4483];
+    let mut file = [0; LONGEST_FILE];
     let _ = session.save(&mut file);
 }
 
@@ -79,37 +76,29 @@ fn make<K: Kind>(heap: Global, session: &mut Session<K>, call: &Call<K>) -> Resu
     match call {
         Call::Set(control, x) => {
             let _ = session.set(*control, *x);
-            Ok(())
         }
         Call::Add(line) => {
             let _ = session.add(*line);
-            Ok(())
         }
         Call::Change(register, line) => {
             let _ = session.change(*register, *line);
-            Ok(())
         }
         Call::Drop => {
             let _ = session.drop_last();
-            Ok(())
         }
-        Call::Save => {
-            make_save(session);
-            Ok(())
-        }
+        Call::Save => make_save(session),
         Call::Value(register) => {
             let _ = session.value(*register);
-            Ok(())
         }
-        Call::Gradient(register) => make_gradient(heap, session, *register),
-        Call::Slope(register, direction) => make_slope(heap, session, *register, direction),
-        Call::Bend(register, direction) => make_bend(heap, session, *register, direction),
+        Call::Gradient(register) => make_gradient(heap, session, *register)?,
+        Call::Slope(register, direction) => make_slope(heap, session, *register, direction)?,
+        Call::Bend(register, direction) => make_bend(heap, session, *register, direction)?,
         Call::Waiting => {
             let _ = session.waiting();
-            Ok(())
         }
-        Call::Controls => make_controls(heap, session),
+        Call::Controls => make_controls(heap, session)?,
     }
+    Ok(())
 }
 
 // Makes every call, in order.

@@ -2,7 +2,7 @@
 use Rattle.std.proofs.Common.{◌≡◌, ℕ, zero, suc, ◌+◌, ◌-◌, ◌<◌, ◌≤◌, Bool, true, false, eqb, leb, ◌≢◌, List, [], ◌∷◌, ◌++◌, map, length, get_or, take, set, pos, None, Option, Result, sym, refl, ap, ◌∙◌, subst, ⊎_elim, arith, length-set, length-take}
 use lib.Seq.{take-set-lt}
 use Rattle.std.proofs.lemmas.Bool.{leb-false, eqb-false, cases_lt, cases_Bool, or_parts, true≢false}
-use Rattle.std.proofs.lemmas.List.{get_or-take, get_or-set_same, get_or-set_other, get_or_append_left, length_push, map-set, ext_get_or, take-map, length-map}
+use Rattle.std.proofs.lemmas.List.{get_or-take, get_or-set_same, get_or-set_other, get_or_append_left, length_push, map-set, take-map, length-map}
 use Rattle.kind.specs.Kinds.{Operations}
 use Rattle.tape.specs.declared.lines.Line.{Line}
 use Rattle.tape.specs.declared.lines.Line.TheVariants.{Constant}
@@ -14,6 +14,7 @@ use Rattle.tape.specs.Rows.{at}
 use Rattle.tape.specs.Tapes.{Tape, line, nth, registers, ReadsBelow}
 use Rattle.tape.specs.Values.{applied}
 use Rattle.tape.proofs.Answering.{answered}
+use Rattle.tape.proofs.Growing.{same_to}
 use Rattle.tape.proofs.Marking.{stale_at, stale_fewer, stale_none, cleared, spared, untouched_fresh}
 use Rattle.tape.proofs.Reading.{reads_agree, reads_fewer, applied_agree}
 use Rattle.tape.proofs.Spreading.{stale_agree}
@@ -172,13 +173,6 @@ module _ {K M : Type 0} (o : Operations M) (means : K → M) where
   number_kept (x ∷ row) (y ∷ row') zero long kept = ap means (kept x)
   number_kept (x ∷ row) (y ∷ row') (suc k) long kept = number_kept row row' k (omega arith) kept
 
-  take_agree : (n : ℕ) (xs ys : List M) → length xs ≡ length ys → ((i : ℕ) → i < n → at o xs i ≡ at o ys i) → take n xs ≡ take n ys
-  take_agree n xs ys long same =
-      ext_get_or o.zero (take n xs) (take n ys) (omega (arith, length-take n xs, length-take n ys))
-      (λ i h.
-      let low : i < n = omega (arith, length-take n xs) in
-      get_or-take n xs i o.zero low ∙ same i low ∙ sym (get_or-take n ys i o.zero low))
-
   pub sweep_keeps : (s s' : State K) (r worked : ℕ) → ReadsBelow s.tape.controls s.tape.lines → Good o means s → WasSwept o means s r worked s' → Step s s' (book o means s)
   sweep_keeps s s' r worked below good done = arrives (state_by s' done.tape refl refl) (record {
     good = record {
@@ -200,8 +194,8 @@ module _ {K M : Type 0} (o : Operations M) (means : K → M) where
     long = swept.room;
     entered = ap (λ c. record { tape = s.tape; controls = c })
         (sym (take-map means n s'.row)
-        ∙ take_agree n (map means s'.row) (map means s.row) (length-map s'.row means ∙ swept.room ∙ sym (length-map s.row means))
-        (λ i low. same i (λ j _ e. absurd (omega arith)))
+        ∙ same_to n (map means s'.row) (map means s.row) o.zero (omega (arith, good.fits, swept.room, length-map s'.row means)) (omega (arith, good.fits, length-map s.row means))
+        (λ i low _. same i (λ j _ e. absurd (omega arith)))
         ∙ take-map means n s.row);
   })
     where

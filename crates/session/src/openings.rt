@@ -19,14 +19,10 @@ impl Opening {
     pub fn new<K: Kind>(controls: usize, rest: &[K], row: &[K]) -> Result<Opening, Refusal>
         ensures { Answered (refuse_open controls (length rest.now) (length row.now)) result (Unit {0}) (λ o. o.table.controls ≡ controls) }
     {
-        match Table::new(controls) {
-            Ok(table) => {
-                if rest.len() < controls || row.len() < controls {
-                    return Err(Refusal::Short);
-                }
-                Ok(Opening { table })
-            }
-            Err(refusal) => Err(refusal),
+        let table = Table::new(controls)?;
+        if rest.len() < controls || row.len() < controls {
+            return Err(Refusal::Short);
         }
+        Ok(Opening { table })
     }
 }

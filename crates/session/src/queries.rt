@@ -13,35 +13,27 @@ use crate::answers::Graded;
 use crate::sessions::Session;
 use kind::{Kind, Pair};
 use sweep::backward;
-use tape::{Refusal, Sheet, Table, recompute};
+use tape::{Refusal, Sheet, Table};
 
-// Works out what is stale at or below a register, then walks back over the row. Answers the table after as well.
+// Works out what is stale at or below a register, then walks back over the row.
 fn grade<K: Kind>(
     row: &mut [K],
-    table: Table,
+    table: &mut Table,
     register: usize,
     adjoint: &mut [K],
-) -> Result<(Table, Graded<K>), Refusal>
-    ensures { Answered (refuse_backward (table_tape table) (length row.old) (length adjoint.old) register) result
-        ((row.new ≡ row.old) × (adjoint.new ≡ adjoint.old))
-        (λ a. Regraded K.Kind.ops K.Kind.means table register row.old row.new adjoint.old adjoint.new a.0 a.1) }
+) -> Result<Graded<K>, Refusal>
+    ensures { Answered (refuse_backward (table_tape table.old) (length row.old) (length adjoint.old) register) result
+        ((row.new ≡ row.old) × (table.new ≡ table.old) × (adjoint.new ≡ adjoint.old))
+        (λ answer. Regraded K.Kind.ops K.Kind.means table.old register row.old row.new adjoint.old adjoint.new table.new answer) }
 {
-    let registers = table.controls() + table.count();
-    if register >= registers {
-        return Err(Refusal::Unknown(register));
-    }
-    if adjoint.len() < registers {
-        return Err(Refusal::Short);
-    }
-    let (after, worked) = recompute(row, table, register)?;
-    let operations = backward(&after, row, register, adjoint)?;
-    let value = row[register];
-    let answer = Graded {
-        value,
+    table.check_query(register, adjoint.len() < table.registers())?;
+    let worked = table.recompute(row, register)?;
+    let operations = backward(table, row, register, adjoint)?;
+    Ok(Graded {
+        value: row[register],
         worked,
         operations,
-    };
-    Ok((after, answer))
+    })
 }
 
 impl<'a, K: Kind> Session<'a, K> {
@@ -49,15 +41,7 @@ impl<'a, K: Kind> Session<'a, K> {
     pub fn gradient(&mut self, register: usize, adjoint: &mut [K]) -> Result<Graded<K>, Refusal>
         ensures { Grades K.Kind.ops K.Kind.means (state self.old) register adjoint.old result (state self.new) adjoint.new }
     {
-        let table = self.table;
-        match grade(self.row, table, register, adjoint) {
-            Ok(graded) => {
-                let (after, answer) = graded;
-                self.table = after;
-                Ok(answer)
-            }
-            Err(refusal) => Err(refusal),
-        }
+        grade(self.row, &mut self.table, register, adjoint)
     }
 
     // The slope of a register along a direction, from the controls alone.

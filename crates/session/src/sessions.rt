@@ -5,7 +5,7 @@ ghost use Rattle.session.specs.States.{state, Opened, Sets, Adds, Changes, Drops
 
 use crate::openings::Opening;
 use kind::Kind;
-use tape::{Line, Refusal, Sheet, Table, recompute, spread};
+use tape::{Line, Refusal, Sheet, Table};
 
 #[derive(Drop)]
 pub struct Session<'a, K: Kind> {
@@ -25,9 +25,7 @@ fn copy_front<K: Copy>(n: usize, from: &[K], to: &mut [K])
     ensures { to.new ≡ copied n from.now to.old }
 {
     let m = n.min(from.len()).min(to.len());
-    for i in 0..m {
-        to[i] = from[i];
-    }
+    to[..m].copy_from_slice(&from[..m]);
 }
 
 impl<'a, K: Kind> Session<'a, K> {
@@ -44,15 +42,14 @@ impl<'a, K: Kind> Session<'a, K> {
     pub fn set(&mut self, control: usize, x: K) -> Result<(), Refusal>
         ensures { Sets (state self.old) control x result (state self.new) }
     {
-        let table = self.table;
-        if control >= table.controls() {
+        if control >= self.control_count() {
             return Err(Refusal::Unknown(control));
         }
-        if self.row.len() < table.controls() + table.count() {
+        if self.row.len() < self.table.registers() {
             return Err(Refusal::Short);
         }
         self.row[control] = x;
-        self.table = spread(table, control);
+        self.table.spread(control);
         Ok(())
     }
 
@@ -60,62 +57,39 @@ impl<'a, K: Kind> Session<'a, K> {
     pub fn add(&mut self, line: Line) -> Result<usize, Refusal>
         ensures { Adds (state self.old) line result (state self.new) }
     {
-        let table = self.table;
-        let own = table.controls() + table.count();
+        let own = self.table.registers();
         if self.row.len() <= own {
             return Err(Refusal::Full);
         }
-        match table.append(line) {
-            Ok(longer) => {
-                self.table = longer;
-                Ok(own)
-            }
-            Err(refusal) => Err(refusal),
-        }
+        self.table.append(line)?;
+        Ok(own)
     }
 
     // Puts another line at a line's register.
     pub fn change(&mut self, register: usize, line: Line) -> Result<(), Refusal>
         ensures { Changes (state self.old) register line result (state self.new) }
     {
-        let table = self.table;
-        match table.replace(register, line) {
-            Ok(changed) => {
-                self.table = spread(changed, register);
-                Ok(())
-            }
-            Err(refusal) => Err(refusal),
-        }
+        self.table.replace(register, line)?;
+        self.table.spread(register);
+        Ok(())
     }
 
     // Drops the last line.
     pub fn drop_last(&mut self) -> Result<(), Refusal>
         ensures { Drops (state self.old) result (state self.new) }
     {
-        let table = self.table;
-        match table.remove_last() {
-            Ok(shorter) => {
-                self.table = shorter;
-                Ok(())
-            }
-            Err(refusal) => Err(refusal),
-        }
+        self.table.remove_last()
     }
 
     // A register's value. Only stale lines at or below it are worked out.
     pub fn value(&mut self, register: usize) -> Result<Answer<K>, Refusal>
         ensures { Asks K.Kind.ops K.Kind.means (state self.old) register result (state self.new) }
     {
-        let table = self.table;
-        match recompute(self.row, table, register) {
-            Ok(swept) => {
-                let (after, worked) = swept;
-                self.table = after;
-                let value = self.row[register];
-                Ok(Answer { value, worked })
-            }
-            Err(refusal) => Err(refusal),
-        }
+        let worked = self.table.recompute(self.row, register)?;
+        Ok(Answer {
+            value: self.row[register],
+            worked,
+        })
     }
 
     // The register of the lowest stale line.
@@ -125,12 +99,19 @@ impl<'a, K: Kind> Session<'a, K> {
         self.table.waiting()
     }
 
+    // The number of controls.
+    pub fn control_count(&self) -> usize
+        ensures { result ≡ (state self.now).tape.controls }
+    {
+        self.table.controls()
+    }
+
     // Copies the controls' numbers out.
     pub fn controls(&self, out: &mut [K]) -> Result<(), Refusal>
         ensures { Shows (state self.now) out.old result out.new }
     {
-        let n = self.table.controls();
-        if self.row.len() < n + self.table.count() || out.len() < n {
+        let n = self.control_count();
+        if self.row.len() < self.table.registers() || out.len() < n {
             return Err(Refusal::Short);
         }
         copy_front(n, self.row, out);

@@ -1,7 +1,7 @@
 // The kinds as words of 64 bits.
 use kind::{Kind, Residue, Size, Ticks};
 
-// A kind whose numbers are made of words, and are compared by them.
+// A kind whose numbers are made of words, and are compared by them. (From can't stand here: kinds and words are of other crates.)
 pub trait Number: Kind {
     fn of(word: u64) -> Self;
 
@@ -12,7 +12,7 @@ pub trait Number: Kind {
 // Even words are 0, 1, 2 and so on, odd ones -1, -2, -3.
 impl Number for Ticks {
     fn of(word: u64) -> Ticks {
-        let half = (word / 2) as i64;
+        let half = (word / 2).cast_signed();
         if word % 2 == 0 {
             Ticks(half)
         } else {
@@ -21,12 +21,7 @@ impl Number for Ticks {
     }
 
     fn word(self) -> u64 {
-        let size = self.0.unsigned_abs();
-        if self.0 < 0 {
-            size.wrapping_neg()
-        } else {
-            size
-        }
+        self.0.cast_unsigned()
     }
 }
 
@@ -36,7 +31,7 @@ impl Number for Residue {
     }
 
     fn word(self) -> u64 {
-        self.0 as u64 % 2147483647
+        u64::from(self.0) % 2147483647
     }
 }
 

@@ -38,7 +38,7 @@ impl Random {
         K::of(self.next() >> bits)
     }
 
-    // A line that mostly reads registers below `own`.
+    // A line that mostly reads registers below `own`. (What is drawn is a number, and stands for nothing else.)
     pub fn line(&mut self, own: usize) -> Line {
         let a = (self.register(own) % 65536) as u16;
         let b = (self.register(own) % 65536) as u16;

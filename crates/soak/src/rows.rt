@@ -7,11 +7,7 @@ use std::alloc::{AllocError, Global};
 
 // A row of zeros.
 pub fn zeros<K: Kind>(heap: Global, len: usize) -> Result<Vec<K>, AllocError> {
-    let mut row = Vec::new(heap);
-    for _ in 0..len {
-        row.push(K::zero())?;
-    }
-    Ok(row)
+    vec![in heap; K::zero(); len]
 }
 
 #[derive(Drop)]
@@ -23,9 +19,7 @@ pub struct Rows<K: Number> {
     // what the session writes, and what the exporter does
     pub by_session: Vec<K>,
     pub by_exporter: Vec<K>,
-    // the saved file, in the first `len` bytes, and the controls copied out
-    pub file: Vec<u8>,
-    pub len: usize,
+    // the controls, copied out
     pub controls: Vec<K>,
 }
 
@@ -38,28 +32,33 @@ impl<K: Number> Rows<K> {
             direction: zeros(heap, 5)?,
             by_session: zeros(heap, 64)?,
             by_exporter: zeros(heap, 64)?,
-            file: vec![in heap; 0; 300]?,
-            len: 0,
             controls: zeros(heap, 5)?,
         })
     }
 
-    // What the session saves now. Where it declines to, the file is empty, and the exporter takes no such file.
-    pub fn save(&mut self, session: &Session<'_, K>) {
-        self.len = session.save(&mut self.file).unwrap_or(0);
-        if session.controls(&mut self.controls).is_err() {
-            self.len = 0;
-        }
+    // What the session saves now. Where it declines to, the file is empty, and the exporter takes no such file: the two differ.
+    pub fn save<'b>(&mut self, session: &Session<'_, K>, buffer: &'b mut [u8]) -> &'b [u8] {
+        let saved = session.save(buffer).unwrap_or(0).min(buffer.len());
+        let end = session.controls(&mut self.controls).map_or(0, |()| saved);
+        &buffer[..end.min(buffer.len())]
     }
 
     // One number in all of both rows, so that an entry that only one side writes is seen.
+    // (`fill` asks for a clone that can't fail, and a kind promises none.)
     pub fn reset(&mut self) {
-        for x in self.by_session.iter_mut() {
+        for x in self
+            .by_session
+            .iter_mut()
+            .chain(self.by_exporter.iter_mut())
+        {
             *x = K::one();
         }
-        for x in self.by_exporter.iter_mut() {
-            *x = K::one();
-        }
+    }
+
+    // Whether both sides wrote the same numbers.
+    pub(crate) fn agree(&self) -> bool {
+        let mut both = self.by_session.iter().zip(&self.by_exporter);
+        both.all(|(x, y)| x.word() == y.word())
     }
 
     // Another direction.
@@ -68,10 +67,4 @@ impl<K: Number> Rows<K> {
             *x = random.number();
         }
     }
-}
-
-// The bytes of the file in a buffer.
-pub fn front(file: &[u8], len: usize) -> &[u8] {
-    let end = len.min(file.len());
-    &file[0..end]
 }

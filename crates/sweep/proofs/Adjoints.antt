@@ -104,9 +104,6 @@ module _ {M : Type 0} {o : Operations M} (l : Laws o) where
   pub back_constant : (D q : M) → D ≡ o.plus D (o.times q o.zero)
   back_constant D q = simp multiplied
 
-  pub back_add : (D q a b : M) → o.plus (o.plus D (o.times q a)) (o.times q b) ≡ o.plus D (o.times q (o.plus a b))
-  back_add D q a b = simp multiplied
-
   pub back_subtract : (D q a b : M) → o.plus (o.plus D (o.times q a)) (o.times (o.opposite q) b) ≡ o.plus D (o.times q (o.plus a (o.opposite b)))
   back_subtract D q a b = simp multiplied
 

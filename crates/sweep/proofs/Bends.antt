@@ -1,10 +1,9 @@
 -- The gradient in pairs: its tangents are the second derivative. Assumes nothing.
-use Rattle.std.proofs.Common.{◌≡◌, ℕ, ◌+◌, ◌-◌, ◌≤◌, leb, List, [], ◌∷◌, map, length, take, drop, replicate, pos, sym, refl, ap, ◌∙◌, subst, ap₂, arith, length-take}
+use Rattle.std.proofs.Common.{◌≡◌, ℕ, ◌+◌, ◌≤◌, leb, List, [], ◌∷◌, ◌++◌, map, length, take, drop, replicate, pos, sym, refl, ap, ◌∙◌, subst, ap₂, arith, length-take}
 use mathlib.Core.Path.{fun_ext}
-use borrow.Rule.Slice.PartMut.{put_mid}
 use lib.ListN.{length-replicate}
 use Rattle.std.proofs.lemmas.List.{length-map, take_at, take-map, take-take}
-use Rattle.std.proofs.lemmas.Slice.{drop-put_mid}
+use Rattle.std.proofs.lemmas.Slice.{drop-append-drop}
 use Rattle.kind.specs.Algebra.{multiplied, times_zero}
 use Rattle.kind.specs.declared.dual.Pair.{Pair}
 use Rattle.kind.specs.Dual.{Dual, dual, dual_operations}
@@ -175,18 +174,18 @@ bend_is {M} {o} laws t valid cs ds cs_is ds_is r g gradient =
 
 -- What stands in a row to whose part 0..n the tangents were copied.
 module _ {K M : Type 0} (means : K → M) (t : Tape) (out part : List K) (n : ℕ) (n_is : n ≡ t.controls) (within : n ≤ length out) where
-  part_size : length (take (n - 0) out) ≡ t.controls
+  part_size : length (take n out) ≡ t.controls
   part_size = simp length-take (omega arith)
 
-  pub bend_written : {o : Operations M} {cs ds : List M} {r : ℕ} (pairs : List (Pair K)) → part ≡ map (λ p. p.tangent) (take (length (take (n - 0) out)) pairs)
-      → IsBend o t cs ds r (map (λ p. p.tangent) (given (dual means) t pairs)) → IsBend o t cs ds r (given means t (put_mid 0 (n - 0) out part))
+  pub bend_written : {o : Operations M} {cs ds : List M} {r : ℕ} (pairs : List (Pair K)) → part ≡ map (λ p. p.tangent) (take (length (take n out)) pairs)
+      → IsBend o t cs ds r (map (λ p. p.tangent) (given (dual means) t pairs)) → IsBend o t cs ds r (given means t (part ++ drop n out))
   bend_written pairs copied bend =
       let all : part ≡ map (λ p. p.tangent) (take t.controls pairs) = copied ∙ ap (λ k. map (λ p. p.tangent) (take k pairs)) part_size in
       let mean : map means part ≡ map (λ p. p.tangent) (given (dual means) t pairs) = ap (map means) all ∙ tangents_mean means (take t.controls pairs) in
       let long : length part ≡ t.controls = sym (length-map part means) ∙ ap length mean ∙ bend.long in
       subst (IsBend _ t _ _ _) (sym (ap (map means) (take_at part _ t.controls long) ∙ mean)) bend
 
-  pub later_written : length part ≡ length (take (n - 0) out) → drop t.controls (put_mid 0 (n - 0) out part) ≡ drop t.controls out
+  pub later_written : length part ≡ length (take n out) → drop t.controls (part ++ drop n out) ≡ drop t.controls out
   later_written long =
       let size = part_size in
-      drop-put_mid 0 (n - 0) out part t.controls (omega arith) (omega arith) (omega arith)
+      drop-append-drop n out part t.controls (omega arith) (omega arith)

@@ -1,10 +1,9 @@
 -- From the transposition law to the adjoint row's entries and to gradients. Assumes nothing.
 use Rattle.std.proofs.Common.{◌≡◌, ℕ, ◌+◌, ◌-◌, ◌<◌, ◌≤◌, leb, List, ◌++◌, map, length, take, drop, replicate, pos, sym, refl, ap, ◌∙◌, subst, ap₂, arith, length-append, length-set, take-append-drop, length-take}
 use native.Mathlib.Decide.{dec_le}
-use borrow.Rule.Slice.PartMut.{put_mid}
 use lib.ListN.{length-replicate}
 use Rattle.std.proofs.lemmas.List.{get_or-append_right, get_or-replicate, length-map, length-take-le, take_all, take-append-le, take_at, take-map, take-take}
-use Rattle.std.proofs.lemmas.Slice.{drop-put_mid}
+use Rattle.std.proofs.lemmas.Slice.{drop-append-drop}
 use Rattle.std.proofs.lemmas.Bool.{lt-leb}
 use Rattle.kind.specs.Algebra.{plus_zero}
 use Rattle.kind.specs.Kinds.{Operations, Laws}
@@ -130,14 +129,14 @@ gradient_of_row {K} {M} {o} laws means t r known row part part_length begins cs 
 
 -- After the walk over the part 0..N of an adjoint row.
 module _ {K M : Type 0} {o : Operations M} (laws : Laws o) (means : K → M) (t : Tape) (r : ℕ) (known : r < registers t) (before part : List K) (n : ℕ) (n_is : n ≡ registers t)
-    (within : n ≤ length before) (same_length : length part ≡ length (take (n - 0) before)) where
+    (within : n ≤ length before) (same_length : length part ≡ length (take n before)) where
   abbrev after : List K
-  after = put_mid 0 (n - 0) before part
+  after = part ++ drop n before
 
   part_length : length part ≡ registers t
   part_length = same_length ∙ simp length-take (omega arith)
 
-  pub adjoint_is : (vs : List M) → Transposes o vs t (unit o (registers t) r) (map means part) → Adjoint o means t vs r before (put_mid 0 (n - 0) before part)
+  pub adjoint_is : (vs : List M) → Transposes o vs t (unit o (registers t) r) (map means part) → Adjoint o means t vs r before (part ++ drop n before)
   adjoint_is vs law =
       let N = registers t in
       let all : take N after ≡ part = take_at part _ N part_length in
@@ -150,9 +149,9 @@ module _ {K M : Type 0} {o : Operations M} (laws : Laws o) (means : K → M) (t 
             agree_below o N _ _ (take-map means N after ∙ ap (map means) (all ∙ sym whole) ∙ sym (take-map means N part)) q (lt-leb N q h) in
             first ∙ entry_by_unit laws N q (map means part) h row_length ∙ law (unit o N q) (unit_length o N q)
             ∙ dot_unit laws _ N r known (tangents_length o vs t (unit o N q) (unit_length o N q));
-        later = drop-put_mid 0 (n - 0) before part N (omega arith) (omega (arith, part_length)) (omega (arith, part_length));
+        later = drop-append-drop n before part N (omega arith) (omega (arith, part_length));
       }
 
   pub gradient_is : (cs : List M) → Transposes o (values o cs t.lines) t (unit o (registers t) r) (map means part)
-      → IsGradient o t cs r (given means t (put_mid 0 (n - 0) before part))
+      → IsGradient o t cs r (given means t (part ++ drop n before))
   gradient_is cs law = gradient_of_row laws means t r known after part part_length (take-append-le t.controls part _ (omega (arith, part_length))) cs law

@@ -1,5 +1,5 @@
 -- Rows of pairs, and their parts. Assumes nothing.
-use Rattle.std.proofs.Common.{◌≡◌, ℕ, zero, suc, ◌<◌, List, [], ◌∷◌, map, length, get_or, refl, ap, arith}
+use Rattle.std.proofs.Common.{◌≡◌, ℕ, zero, suc, ◌<◌, List, [], ◌∷◌, map, length, get_or, refl, ap, ◌∙◌, arith}
 use Rattle.kind.specs.Dual.{Dual, dual_path}
 use Rattle.sweep.specs.Forward.{paired}
 
@@ -8,6 +8,9 @@ module _ {M : Type 0} where
   paired_length [] ds e = refl
   paired_length (c ∷ cs) [] e = absurd (omega arith)
   paired_length (c ∷ cs) (d ∷ ds) e = ap suc (paired_length cs ds (omega arith))
+
+  pub paired_given : {n : ℕ} (cs ds : List M) → length cs ≡ n → length ds ≡ n → length (paired cs ds) ≡ n
+  paired_given cs ds p q = paired_length cs ds (omega arith) ∙ p
 
   pub paired_read : (cs ds : List M) (i : ℕ) (c d : M) (z : Dual M) → i < length cs → i < length ds → c ≡ get_or cs i c → d ≡ get_or ds i d
       → record { value = c; tangent = d } ≡ get_or (paired cs ds) i z

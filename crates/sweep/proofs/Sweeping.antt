@@ -1,9 +1,8 @@
 -- The forward sweep, over meanings: the loop's start, step and end. Assumes nothing.
-use Rattle.std.proofs.Common.{◌≡◌, ℕ, ◌+◌, ◌-◌, ◌<◌, ◌≤◌, List, [], map, length, take, set, pos, sym, ap, ◌∙◌, ap₂, arith, length-take}
-use Rattle.std.proofs.lemmas.List.{get_or-take, length-map, length-take-le, nil_from_length, take_all, take_at, take-map, take-take}
-use Rattle.std.proofs.lemmas.Slice.{drop-put_mid}
+use Rattle.std.proofs.Common.{min, subst₂, length-append, length-drop, ◌≡◌, ℕ, ◌+◌, ◌-◌, ◌<◌, ◌≤◌, List, [], ◌++◌, map, length, take, drop, set, pos, sym, ap, ◌∙◌, ap₂, arith, length-take}
+use Rattle.std.proofs.lemmas.List.{get_or-take, length-map, length-take-le, nil_from_length, take_all, take_at, take_min, take-map, take-take}
+use Rattle.std.proofs.lemmas.Slice.{drop-append-drop}
 use Rattle.std.proofs.lemmas.Bool.{lt-leb}
-use borrow.Rule.Slice.PartMut.{put_mid}
 use Rattle.tape.specs.declared.lines.Line.TheVariants.{Constant}
 use Rattle.kind.specs.Kinds.{Operations}
 use Rattle.tape.specs.Rows.{at, grow}
@@ -40,6 +39,16 @@ module _ {M : Type 0} (o : Operations M) (t : Tape) (old : List M) where
   swept_all row i fits long end same =
       sym (take_all i row (omega arith)) ∙ same ∙ take_all i target (rw (target_length fits) end)
 
+-- A sweep over the part of a row that has registers.
+pub swept_front : {K M : Type 0} (o : Operations M) (means : K → M) (t : Tape) (old part : List K) (end : ℕ) → end ≡ min (length old) (registers t) → length part ≡ length (take end old)
+    → Swept o t (map means (take end old)) (map means part) → Swept o t (take (registers t) (map means old)) (take (registers t) (map means (part ++ drop end old)))
+swept_front o means t old part end end_is part_is swept =
+    let long : length part ≡ end = part_is ∙ length-take-le end old (omega arith) in
+    let size : length (part ++ drop end old) ≡ length old = simp (length-append, length-drop) (omega arith) in
+    let before = take-map means (registers t) old ∙ ap (map means) (sym (take_min (registers t) old) ∙ ap (λ k. take k old) (omega arith)) in
+    let after = take-map means (registers t) (part ++ drop end old) ∙ ap (map means) (sym (take_min (registers t) (part ++ drop end old)) ∙ ap (λ k. take k (part ++ drop end old)) (omega arith) ∙ take_at part _ end long) in
+    subst₂ (Swept o t) (sym before) (sym after) swept
+
 -- A sweep over a row that begins with the controls.
 pub sweep_fills : {M : Type 0} (o : Operations M) (t : Tape) (cs row new : List M) → length cs ≡ t.controls → take t.controls row ≡ take (length row) cs
     → Swept o t row new → new ≡ take (length row) (values o cs t.lines)
@@ -47,16 +56,21 @@ sweep_fills o t cs row new given begins swept =
     let lines_same : take (length row - t.controls) t.lines ≡ take (length row - length cs) t.lines = ap (λ k. take (length row - k) t.lines) (sym given) in
     swept ∙ ap₂ (values o) begins lines_same ∙ sym (grow_to (line_value o) cs t.lines (length row))
 
--- After a sweep over the part 0..r of a row, from controls that are cs.
-module _ {K M : Type 0} (o : Operations M) (means : K → M) (t : Tape) (cs : List M) (r : ℕ) (old part : List K) where
-  pub part_fills : (from : List M) → from ≡ cs → r < length old → length part ≡ length (take (r + 1 - 0) old)
-      → map means part ≡ take (length (take (r + 1 - 0) old)) (values o from t.lines) → Filled o means t cs r old (put_mid 0 (r + 1 - 0) old part)
-  part_fills from from_is within same_length is =
-      let long : length part ≡ r + 1 = same_length ∙ simp length-take (omega arith) in
+-- The part 0..r of a row, into which the controls cs were loaded, after a sweep.
+module _ {K M : Type 0} (o : Operations M) (means : K → M) (t : Tape) (cs : List M) (r : ℕ) (old : List K) where
+  pub part_fills : (loaded part : List K) (k : ℕ) (from : List M) → k ≡ t.controls → from ≡ cs → length cs ≡ t.controls → r < length old
+      → length loaded ≡ length (take (r + 1) old) → length part ≡ length loaded → take k (map means loaded) ≡ take (length (take (r + 1) old)) from
+      → Swept o t (map means loaded) (map means part) → Filled o means t cs r old (part ++ drop (r + 1) old)
+  part_fills loaded part k from k_is from_is cs_is within loaded_is part_is begins swept =
+      let size : length (take (r + 1) old) ≡ r + 1 = simp length-take (omega arith) in
+      let long : length part ≡ r + 1 = part_is ∙ loaded_is ∙ size in
+      let row_is : length (map means loaded) ≡ r + 1 = length-map loaded means ∙ loaded_is ∙ size in
+      let begins_so : take t.controls (map means loaded) ≡ take (length (map means loaded)) cs =
+      ap (λ n. take n (map means loaded)) (sym k_is) ∙ begins ∙ ap₂ take (size ∙ sym row_is) from_is in
       record {
-        filled = take-map means (r + 1) (put_mid 0 (r + 1 - 0) old part) ∙ ap (map means) (take_at part _ (r + 1) long) ∙ is
-            ∙ ap₂ (λ k c. take k (values o c t.lines)) (sym same_length ∙ long) from_is;
-        later = drop-put_mid 0 (r + 1 - 0) old part (r + 1) (omega arith) (omega arith) (omega arith);
+        filled = take-map means (r + 1) (part ++ drop (r + 1) old) ∙ ap (map means) (take_at part _ (r + 1) long)
+            ∙ sweep_fills o t cs (map means loaded) (map means part) cs_is begins_so swept ∙ ap (λ n. take n (values o cs t.lines)) row_is;
+        later = drop-append-drop (r + 1) old part (r + 1) (omega arith) long;
       }
 
   -- the answer, read from a row that is filled
@@ -64,8 +78,11 @@ module _ {K M : Type 0} (o : Operations M) (means : K → M) (t : Tape) (cs : Li
   filled_at new x fills is = is ∙ agree_below o (r + 1) _ _ fills.filled r (lt-leb (r + 1) r (omega arith))
 
 -- The part 0..n of a row of controls is what the controls are given.
-pub given_part : {K M : Type 0} (means : K → M) (t : Tape) (n : ℕ) (row : List K) → n ≡ t.controls → map means (take (n - 0) row) ≡ given means t row
-given_part means t n row is = ap (λ k. map means (take k row)) (omega arith)
+pub given_part : {K M : Type 0} (means : K → M) (t : Tape) (n : ℕ) (row : List K) → n ≡ t.controls → map means (take n row) ≡ given means t row
+given_part means t n row is = ap (λ k. map means (take k row)) is
+
+pub given_size : {K : Type 0} (t : Tape) (n : ℕ) (row : List K) → n ≡ t.controls → t.controls ≤ length row → length (take n row) ≡ t.controls
+given_size t n row is long = length-take-le n row (omega arith) ∙ is
 
 pub given_length : {K M : Type 0} (means : K → M) (t : Tape) (row : List K) → t.controls ≤ length row → length (given means t row) ≡ t.controls
 given_length means t row long = length-map _ means ∙ length-take-le t.controls row long

@@ -1,5 +1,5 @@
 // What a gradient query answers besides the adjoint row.
-#[derive(Clone, Copy)]
+#[derive(Clone, Copy, Debug, PartialEq, Eq)]
 pub struct Gradient<K> {
     pub value: K,
     // the operations of the backward walk

@@ -1,10 +1,11 @@
-// Values and slopes: one sweep up the lines.
+// Values and slopes: one sweep up the lines. (A function for each query, since each has rows of its own; their checks and the sweep
+// are shared.)
 ghost use Rattle.std.specs.Prelude.{◌≡◌, length};
 ghost use Rattle.tape.specs.Refusals.{Answered};
 ghost use Rattle.sweep.specs.Refusals.{refuse_value, refuse_slope};
 ghost use Rattle.sweep.specs.Forward.{Valued, Sloped};
 
-use crate::filling::{fill, fill_pairs};
+use crate::filling::{load, load_pairs, sweep_lines};
 use crate::rows::entry;
 use kind::{Kind, Pair};
 use tape::{Refusal, Sheet};
@@ -21,14 +22,12 @@ pub fn value<K: Kind, S: Sheet>(
         (Valued K.Kind.ops K.Kind.means (S.Sheet.tape sheet.now) controls.now r row.old row.new) }
 {
     let n = sheet.controls();
-    let registers = n + sheet.count();
-    if r >= registers {
-        return Err(Refusal::Unknown(r));
-    }
-    if controls.len() < n || row.len() < registers {
-        return Err(Refusal::Short);
-    }
-    fill(sheet, &controls[0..n], &mut row[0..r + 1]);
+    // `|` has no branch, so the proof has one path.
+    let short = (controls.len() < n) | (row.len() < sheet.registers());
+    sheet.check_query(r, short)?;
+    let part = &mut row[..r + 1];
+    load(&controls[..n], part);
+    sweep_lines(sheet, part);
     Ok(entry(row, r))
 }
 
@@ -45,13 +44,10 @@ pub fn slope<K: Kind, S: Sheet>(
         (Sloped K.Kind.ops K.Kind.means (S.Sheet.tape sheet.now) controls.now direction.now r row.old row.new) }
 {
     let n = sheet.controls();
-    let registers = n + sheet.count();
-    if r >= registers {
-        return Err(Refusal::Unknown(r));
-    }
-    if controls.len() < n || direction.len() < n || row.len() < registers {
-        return Err(Refusal::Short);
-    }
-    fill_pairs(sheet, &controls[0..n], &direction[0..n], &mut row[0..r + 1]);
+    let short = (controls.len() < n) | (direction.len() < n) | (row.len() < sheet.registers());
+    sheet.check_query(r, short)?;
+    let part = &mut row[..r + 1];
+    load_pairs(&controls[..n], &direction[..n], part);
+    sweep_lines(sheet, part);
     Ok(entry(row, r).tangent)
 }

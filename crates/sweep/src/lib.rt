@@ -11,6 +11,7 @@ pub mod theorems;
 pub mod walking;
 
 pub use answers::Gradient;
+pub use filling::evaluate;
 pub use forward::{slope, value};
 pub use reverse::{bend, gradient};
 pub use theorems::reverse_is_forward;

@@ -5,7 +5,7 @@ ghost use Rattle.sweep.specs.Refusals.{refuse_gradient, refuse_bend};
 ghost use Rattle.sweep.specs.Queries.{Graded, Bent};
 
 use crate::answers::Gradient;
-use crate::filling::{fill, fill_pairs};
+use crate::filling::{load, load_pairs, sweep_lines};
 use crate::rows::entry;
 use crate::walking::walk;
 use kind::{Kind, Pair};
@@ -25,15 +25,14 @@ pub fn gradient<K: Kind, S: Sheet>(
         (Graded K.Kind.ops K.Kind.means (S.Sheet.tape sheet.now) controls.now r row.old row.new adjoint.old adjoint.new) }
 {
     let n = sheet.controls();
-    let registers = n + sheet.count();
-    if r >= registers {
-        return Err(Refusal::Unknown(r));
-    }
-    if controls.len() < n || row.len() < registers || adjoint.len() < registers {
-        return Err(Refusal::Short);
-    }
-    fill(sheet, &controls[0..n], &mut row[0..r + 1]);
-    let operations = walk(sheet, row, r, &mut adjoint[0..registers]);
+    let registers = sheet.registers();
+    // `|` has no branch, so the proof has one path.
+    let short = (controls.len() < n) | (row.len() < registers) | (adjoint.len() < registers);
+    sheet.check_query(r, short)?;
+    let part = &mut row[..r + 1];
+    load(&controls[..n], part);
+    sweep_lines(sheet, part);
+    let operations = walk(sheet, row, r, &mut adjoint[..registers]);
     let value = entry(row, r);
     Ok(Gradient { value, operations })
 }
@@ -43,9 +42,9 @@ fn copy_tangents<K: Kind>(pairs: &[Pair<K>], out: &mut [K])
     requires { length out.old ≤ length pairs.now }
     ensures { out.new ≡ map (λ p. p.tangent) (take (length out.old) pairs.now) }
 {
-    for i in 0..out.len() {
-        let pair = pairs[i];
-        out[i] = pair.tangent;
+    // By the index: after a zip over `iter_mut` a proof knows no entry.
+    for (i, tangent) in out.iter_mut().enumerate() {
+        *tangent = pairs[i].tangent;
     }
 }
 
@@ -64,18 +63,17 @@ pub fn bend<K: Kind, S: Sheet>(
         (λ _. Bent K.Kind.ops K.Kind.means (S.Sheet.tape sheet.now) controls.now direction.now r row.old row.new adjoint.old adjoint.new out.old out.new) }
 {
     let n = sheet.controls();
-    let registers = n + sheet.count();
-    if r >= registers {
-        return Err(Refusal::Unknown(r));
-    }
-    if controls.len() < n || direction.len() < n || out.len() < n {
-        return Err(Refusal::Short);
-    }
-    if row.len() < registers || adjoint.len() < registers {
-        return Err(Refusal::Short);
-    }
-    fill_pairs(sheet, &controls[0..n], &direction[0..n], &mut row[0..r + 1]);
-    let _ = walk(sheet, row, r, &mut adjoint[0..registers]);
-    copy_tangents(adjoint, &mut out[0..n]);
+    let registers = sheet.registers();
+    let short = (controls.len() < n)
+        | (direction.len() < n)
+        | (out.len() < n)
+        | (row.len() < registers)
+        | (adjoint.len() < registers);
+    sheet.check_query(r, short)?;
+    let part = &mut row[..r + 1];
+    load_pairs(&controls[..n], &direction[..n], part);
+    sweep_lines(sheet, part);
+    let _ = walk(sheet, row, r, &mut adjoint[..registers]);
+    copy_tangents(adjoint, &mut out[..n]);
     Ok(())
 }

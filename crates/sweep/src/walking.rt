@@ -59,8 +59,9 @@ fn give_back<K: Kind>(line: Line, q: K, values: &[K], adjoint: &mut [K]) -> usiz
 fn clear<K: Kind>(row: &mut [K])
     ensures { map K.Kind.means row.new ≡ replicate (length row.old) K.Kind.ops.zero }
 {
-    for i in 0..row.len() {
-        row[i] = K::zero();
+    // Not `fill`: that asks for a clone that cannot fail, which a kind does not promise.
+    for x in row.iter_mut() {
+        *x = K::zero();
     }
 }
 
@@ -76,9 +77,8 @@ pub(crate) fn walk<K: Kind, S: Sheet>(sheet: &S, values: &[K], r: usize, adjoint
     adjoint[r] = K::one();
     let n = sheet.controls();
     let mut count: usize = 0;
-    let mut i = r + 1;
-    while i > n {
-        i -= 1;
+    // By register, downwards: a line's entry is given to entries before it in the same row.
+    for i in (n..r + 1).rev() {
         let line = line_of(sheet, i - n);
         let q = adjoint[i];
         count += give_back(line, q, values, adjoint);
@@ -97,12 +97,7 @@ pub fn backward<K: Kind, S: Sheet>(
         (adjoint.new ≡ adjoint.old)
         (Walked K.Kind.ops K.Kind.means (S.Sheet.tape sheet.now) (map K.Kind.means values.now) r adjoint.old adjoint.new) }
 {
-    let registers = sheet.controls() + sheet.count();
-    if r >= registers {
-        return Err(Refusal::Unknown(r));
-    }
-    if values.len() < registers || adjoint.len() < registers {
-        return Err(Refusal::Short);
-    }
-    Ok(walk(sheet, values, r, &mut adjoint[0..registers]))
+    let registers = sheet.registers();
+    sheet.check_query(r, (values.len() < registers) | (adjoint.len() < registers))?;
+    Ok(walk(sheet, values, r, &mut adjoint[..registers]))
 }

@@ -25,10 +25,6 @@ notice (Unknown k) = naming 5 k
 notice Empty = plain 6
 notice (Unbounded k) = naming 10 k
 
-abbrev pub noticed : Option Refusal → Option Notice
-noticed (Some e) = Some (notice e)
-noticed None = None
-
 -- A call that has a cause to be declined answers its notice and leaves all `same`; any other is `done`.
 abbrev pub Answered : {R : Type 0} → Option Notice → Result R Refusal → Type 0 → (R → Type 0) → Type 0
 Answered (Some why) (Ok v) same done = ⊥

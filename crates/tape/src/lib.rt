@@ -13,7 +13,6 @@ pub mod tables;
 
 pub use laws::rows_are_determined;
 pub use lines::Line;
-pub use marks::{recompute, spread};
 pub use refusals::Refusal;
 pub use sheets::Sheet;
 pub use tables::Table;

@@ -2,7 +2,7 @@
 ghost use Rattle.std.specs.Prelude.{◌≡◌};
 ghost use Rattle.tape.specs.Refusals.{notice};
 
-#[derive(Clone, Copy)]
+#[derive(Clone, Copy, Debug, PartialEq, Eq)]
 pub enum Refusal {
     // the number of controls is not 1 to 128
     Controls,
@@ -38,8 +38,7 @@ impl Refusal {
         ensures { result ≡ (notice self).named }
     {
         match self {
-            Refusal::Unknown(register) => Some(register),
-            Refusal::Unbounded(register) => Some(register),
+            Refusal::Unknown(register) | Refusal::Unbounded(register) => Some(register),
             _ => None,
         }
     }

@@ -6,6 +6,7 @@ use crate::refusals::Refusal;
 use crate::sheets::Sheet;
 use crate::tables::Table;
 
+// (A file's view has the same three methods, a line or two each, over its bytes.)
 impl Sheet for Table {
     ghost tape = { table_tape };
 

@@ -5,7 +5,8 @@ ghost use Rattle.tape.specs.Tapes.{ReadsBelow, ConstantsFit};
 use crate::lines::Line;
 
 // A tape in memory, with a mark for each line. A marked line is stale: its kept number may be out of date.
-// The ghost fields are the rules of tapes, so that no table can break them.
+// The ghost fields are the rules of tapes, so that no table can break them. Two arrays and a count: a table has fixed memory,
+// and the contracts speak of the marks as a row of their own.
 #[derive(Clone, Copy)]
 pub struct Table {
     pub(crate) controls: usize,

@@ -13,13 +13,11 @@ fn declined<T: Drop>(
     number: u8,
     named: Option<usize>,
 ) -> Result<(), Fail> {
-    match answer {
-        Ok(_) => Err(Fail::new("not declined")),
-        Err(refusal) => {
-            assert_eq!(rt; (refusal.number(), refusal.named()), (number, named));
-            Ok(())
-        },
-    }
+    let Err(refusal) = answer else {
+        return Err(Fail::new("not declined"));
+    };
+    assert_eq!(rt; (refusal.number(), refusal.named()), (number, named));
+    Ok(())
 }
 
 #[test]
@@ -35,10 +33,7 @@ fn controls_are_1_to_128(rt: HostRuntime) -> Result<(), Fail> {
 fn lines_are_1024_at_most(rt: HostRuntime) -> Result<(), Fail> {
     let mut table = table_of(1, &[])?;
     for _ in 0..1024 {
-        table = match table.append(Line::Opposite(0)) {
-            Ok(longer) => longer,
-            Err(_) => return Err(Fail::new("a line was declined")),
-        };
+        table.append(Line::Opposite(0))?;
     }
     assert_eq!(rt; table.count(), 1024);
     declined(&rt, table.append(Line::Opposite(0)), 3, None)
@@ -47,7 +42,7 @@ fn lines_are_1024_at_most(rt: HostRuntime) -> Result<(), Fail> {
 // A line reads registers below its own.
 #[test]
 fn a_line_cannot_read_its_own_register(rt: HostRuntime) -> Result<(), Fail> {
-    let table = table_of(2, &[Line::Add(0, 1)])?;
+    let mut table = table_of(2, &[Line::Add(0, 1)])?;
     declined(&rt, table.append(Line::Add(0, 3)), 5, Some(3))?;
     declined(&rt, table.append(Line::Multiply(4, 3)), 5, Some(4))?;
     declined(&rt, table.replace(2, Line::Opposite(2)), 5, Some(2))?;
@@ -70,10 +65,7 @@ fn registers_and_rows(rt: HostRuntime) -> Result<(), Fail> {
 
 #[test]
 fn no_line_to_take_off(rt: HostRuntime) -> Result<(), Fail> {
-    let table = table_of(1, &[Line::Constant(4)])?;
-    let Ok(none) = table.remove_last() else {
-        assert!(rt; false);
-        return Ok(());
-    };
-    declined(&rt, none.remove_last(), 6, None)
+    let mut table = table_of(1, &[Line::Constant(4)])?;
+    table.remove_last()?;
+    declined(&rt, table.remove_last(), 6, None)
 }

@@ -11,10 +11,7 @@ fn a_square(rt: HostRuntime) -> Result<(), Fail> {
     let table = table_of(1, &[Line::Multiply(0, 0)])?;
     let mut row = [Ticks(0); 2];
     let mut adjoint = [Ticks(0); 2];
-    let Ok(answer) = gradient(&table, &[Ticks(5)], 1, &mut row, &mut adjoint) else {
-        assert!(rt; false);
-        return Ok(());
-    };
+    let answer = gradient(&table, &[Ticks(5)], 1, &mut row, &mut adjoint)?;
     assert_eq!(rt; (answer.value.0, adjoint[0].0), (25, 10));
     Ok(())
 }
@@ -35,10 +32,7 @@ fn a_square_in_pairs_of_pairs(rt: HostRuntime) -> Result<(), Fail> {
     };
     let mut row = [point; 2];
     let mut adjoint = [point; 2];
-    let Ok(answer) = gradient(&table, &[point], 1, &mut row, &mut adjoint) else {
-        assert!(rt; false);
-        return Ok(());
-    };
+    let answer = gradient(&table, &[point], 1, &mut row, &mut adjoint)?;
     let square = answer.value;
     assert_eq!(rt; (square.value.value.0, square.tangent.tangent.0), (25, 2));
     let slope = adjoint[0];
@@ -52,17 +46,11 @@ fn a_difference(rt: HostRuntime) -> Result<(), Fail> {
     let table = table_of(1, &[Line::Subtract(0, 0)])?;
     let mut row = [Ticks(7); 2];
     let mut adjoint = [Ticks(7); 2];
-    let Ok(exact) = gradient(&table, &[Ticks(9)], 1, &mut row, &mut adjoint) else {
-        assert!(rt; false);
-        return Ok(());
-    };
+    let exact = gradient(&table, &[Ticks(9)], 1, &mut row, &mut adjoint)?;
     assert_eq!(rt; (exact.value.0, adjoint[0].0), (0, 0));
     let mut sizes = [Size(7); 2];
     let mut bounds = [Size(7); 2];
-    let Ok(bound) = gradient(&table, &[Size(9)], 1, &mut sizes, &mut bounds) else {
-        assert!(rt; false);
-        return Ok(());
-    };
+    let bound = gradient(&table, &[Size(9)], 1, &mut sizes, &mut bounds)?;
     assert_eq!(rt; (bound.value.0, bounds[0].0), (18, 2));
     Ok(())
 }

@@ -1,18 +1,11 @@
 // Tables that the tests are about.
-use std::test::Fail;
-use tape::{Line, Table};
+use tape::{Line, Refusal, Table};
 
 // A table with the lines one after another.
-pub(crate) fn table_of(controls: usize, lines: &[Line]) -> Result<Table, Fail> {
-    let mut table = match Table::new(controls) {
-        Ok(table) => table,
-        Err(_) => return Err(Fail::new("no table")),
-    };
+pub(crate) fn table_of(controls: usize, lines: &[Line]) -> Result<Table, Refusal> {
+    let mut table = Table::new(controls)?;
     for line in lines {
-        table = match table.append(*line) {
-            Ok(longer) => longer,
-            Err(_) => return Err(Fail::new("a line was declined")),
-        };
+        table.append(*line)?;
     }
     Ok(table)
 }

@@ -24,7 +24,7 @@ const SIZES: Pair<Size> = Pair {
 };
 
 // A number x, twice it, its difference from itself, and its square.
-fn four_registers() -> Result<Table, Fail> {
+fn four_registers() -> Result<Table, Refusal> {
     table_of(
         1,
         &[Line::Add(0, 0), Line::Subtract(0, 0), Line::Multiply(0, 0)],
@@ -78,9 +78,7 @@ fn whole(table: &Table, r: usize, x: i64, along: i64) -> Result<Whole, Refusal> 
 fn sizes_below_2_to_the_63_are_answered(rt: HostRuntime) -> Result<(), Fail> {
     let table = four_registers()?;
     for case in &ANSWERED {
-        let Ok(answer) = whole(&table, case.0, case.1, case.2) else {
-            return Err(Fail::new("declined"));
-        };
+        let answer = whole(&table, case.0, case.1, case.2)?;
         assert_eq!(rt; (answer.value, answer.slope), (case.3, case.4));
     }
     for case in &TOO_LARGE {
@@ -112,21 +110,18 @@ const KEPT: [(i64, i64, i64, i64); 16] = [
     (-i64::MAX, -i64::MAX, -1, SPAN),
 ];
 
-fn range(x: i64, along: i64) -> Result<StepRange, Fail> {
+fn range(x: i64, along: i64) -> Result<StepRange, Refusal> {
     let table = table_of(1, &[])?;
     let mut pairs = [PAIR];
     let mut sizes = [SIZES];
-    match steps(
+    steps(
         &table,
         &[Ticks(x)],
         &[Ticks(along)],
         &[0],
         &mut pairs,
         &mut sizes,
-    ) {
-        Ok(range) => Ok(range),
-        Err(_) => Err(Fail::new("declined")),
-    }
+    )
 }
 
 #[test]
@@ -151,17 +146,11 @@ fn the_narrowest_of_several_tests(rt: HostRuntime) -> Result<(), Fail> {
     let along = [Ticks(-1), Ticks(1)];
     let mut pairs = [PAIR; 4];
     let mut sizes = [SIZES; 4];
-    let Ok(all) = steps(&table, &controls, &along, &[], &mut pairs, &mut sizes) else {
-        assert!(rt; false);
-        return Ok(());
-    };
+    let all = steps(&table, &controls, &along, &[], &mut pairs, &mut sizes)?;
     assert_eq!(rt; (all.low, all.high), (-SPAN, SPAN));
     assert_eq!(rt; entries(pairs[2], sizes[2]), (15, 2, 15, 8));
     assert_eq!(rt; entries(pairs[3], sizes[3]), (7, 7, 7, 7));
-    let Ok(both) = steps(&table, &controls, &along, &[0, 1], &mut pairs, &mut sizes) else {
-        assert!(rt; false);
-        return Ok(());
-    };
+    let both = steps(&table, &controls, &along, &[0, 1], &mut pairs, &mut sizes)?;
     assert_eq!(rt; (both.low, both.high), (-2, 4));
     Ok(())
 }
@@ -173,10 +162,10 @@ fn declined(
     sizes: &mut [Pair<Size>],
 ) -> Result<(u8, Option<usize>), Fail> {
     let table = table_of(1, &[Line::Add(0, 0)])?;
-    match steps(&table, &[Ticks(HALF)], &[Ticks(0)], tests, pairs, sizes) {
-        Ok(_) => Err(Fail::new("not declined")),
-        Err(refusal) => Ok((refusal.number(), refusal.named())),
-    }
+    let Err(refusal) = steps(&table, &[Ticks(HALF)], &[Ticks(0)], tests, pairs, sizes) else {
+        return Err(Fail::new("not declined"));
+    };
+    Ok((refusal.number(), refusal.named()))
 }
 
 // An unknown register, the first of the list, comes before a short row, and both before any work; a large size comes after it.

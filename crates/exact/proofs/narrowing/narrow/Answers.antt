@@ -1,8 +1,13 @@
 use Rattle.std.proofs.Common.{◌≡◌, pos, neg_ℤ, arith, w64, SFits, to_z, of_z, rules}
 use Rattle.std.proofs.lemmas.Int.{clamps, ints, to_z-of_z}
 use Rattle.std.specs.Int.{int_max, int_min}
-use Rattle.exact.proofs.RangeLaws.{narrowed_above, narrowed_below, other_side, same_side}
+use Rattle.exact.proofs.RangeLaws.{narrowed_above, narrowed_below, not_narrowed, other_side, same_side}
 use Rattle.exact.proofs.narrowing.narrow.Goals as goal
+
+pub returns-then-whole-eq0 : goal.returns-then-whole-eq0
+returns-then-whole-eq0 c =
+    let flat : c.args.whole.slope ≡ pos 0 = omega (arith, ints, c.if-whole-eq0.true) in
+    not_narrowed _ _ c.args.whole.value _ c.requires.from c.requires.to c.requires.stay flat
 
 pub returns-then-whole : goal.returns-then-whole
 returns-then-whole c =

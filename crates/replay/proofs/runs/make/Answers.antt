@@ -1,8 +1,6 @@
-use Rattle.std.proofs.Common.{refl}
 use Rattle.tape.specs.Tables.{table_valid}
-use Rattle.session.specs.declared.calls.Call.TheVariants.{Save, Waiting, Controls}
 use Rattle.session.specs.States.{state}
-use Rattle.session.proofs.Entering.{for, set_enters, add_enters, change_enters, drop_enters, ask_enters, look_enters}
+use Rattle.session.proofs.Entering.{for, set_enters, add_enters, change_enters, drop_enters, ask_enters}
 use Rattle.replay.proofs.runs.make.Goals as goal
 
 pub returns-in-Set : goal.returns-in-Set
@@ -42,26 +40,3 @@ returns-in-Value g c =
     let before = state c.args.session.now in
     let after = state c.value.new.self in
     for k.ops k.means before after c.in-Value.is (ask_enters k.ops k.means before after (table_valid t) c.in-Value.register c.value.result c.value.ensures)
-
-pub returns-in-Save : goal.returns-in-Save
-returns-in-Save g c =
-    let k = g.K.Kind in
-    let s = state c.args.session.now in
-    for k.ops k.means s s c.in-Save.is (look_enters k.ops k.means s s Save (λ _ _. refl) refl)
-
-pub returns-in-Waiting : goal.returns-in-Waiting
-returns-in-Waiting g c =
-    let k = g.K.Kind in
-    let s = state c.args.session.now in
-    for k.ops k.means s s c.in-Waiting.is (look_enters k.ops k.means s s Waiting (λ _ _. refl) refl)
-
-pub returns-in-Controls : goal.returns-in-Controls
-returns-in-Controls g c =
-    let k = g.K.Kind in
-    let s = state c.args.session.now in
-    for k.ops k.means s s c.in-Controls.is (look_enters k.ops k.means s s Controls (λ _ _. refl) refl)
-
-pub returns-in-Gradient : goal.returns-in-Gradient
-returns-in-Gradient g c =
-    let k = g.K.Kind in
-    for k.ops k.means (state c.args.session.now) (state c.make_gradient.new.session) c.in-Gradient.is c.make_gradient.ensures

@@ -1,11 +1,11 @@
-use Rattle.std.proofs.Common.{take, ap, ◌∙◌, arith}
-use Rattle.tape.proofs.Growing.{copy_more, copy_all}
+use Rattle.std.proofs.Common.{◌≡◌, ◌++◌, map, length, take, drop, sym, ap, ◌∙◌, arith}
+use Rattle.std.proofs.lemmas.Grind.{common_steps}
+use Rattle.std.proofs.lemmas.List.{take-map}
 use Rattle.sweep.proofs.filling.load.Goals as goal
-
-pub loop-i-preserved : goal.loop-i-preserved
-loop-i-preserved g c = copy_more c.loop-i.row c.args.controls.now c.loop-i.i _ (omega arith) (omega arith) c.index-controls-i.is c.loop-i.invariant
 
 pub returns : goal.returns
 returns g c =
-    copy_all c.loop-i.row c.args.controls.now c.loop-i.i (omega arith) c.loop-i.invariant
-    ∙ ap (λ k. take k c.args.controls.now) c.loop-i.auto.row
+    let m = g.K.Kind.means in
+    let controls = c.args.controls.now in
+    let copied : take (length controls) (c.copy_from_slice.new.self ++ drop c.min-both.result c.args.row.now) ≡ take (length c.args.row.now) controls = grind (arith, common_steps) in
+    take-map m (length controls) _ ∙ ap (map m) copied ∙ sym (take-map m (length c.args.row.now) controls)

@@ -7,5 +7,4 @@ abbrev pub invariant-loop-i : goal.invariant-loop-i
 invariant-loop-i g l =
     let t = g.S.Sheet.tape l.sheet in
     let old = map g.K.Kind.means l.initial.row in
-    (length l.row ≡ length l.initial.row)
-    × (take l.i (map g.K.Kind.means l.row) ≡ take l.i (values g.K.Kind.ops (take t.controls old) (take (length old - t.controls) t.lines)))
+    take l.i (map g.K.Kind.means l.row) ≡ take l.i (values g.K.Kind.ops (take t.controls old) (take (length old - t.controls) t.lines))

@@ -1,5 +1,5 @@
 use Rattle.std.proofs.Common.{◌≡◌, map, take, replicate}
 use Rattle.sweep.proofs.walking.clear.Given as goal
 
-abbrev pub invariant-loop-i : goal.invariant-loop-i
-invariant-loop-i g l = take l.i (map g.K.Kind.means l.row) ≡ replicate l.i g.K.Kind.ops.zero
+abbrev pub invariant-loop-x : goal.invariant-loop-x
+invariant-loop-x g l = take l.x-index (map g.K.Kind.means l.row) ≡ replicate l.x-index g.K.Kind.ops.zero

@@ -19,7 +19,7 @@ loop-i-init g c =
     let first : map m (set c.clear.new.row r c.one.result) ≡ unit o (registers t) r =
     map-set m c.clear.new.row r _
     ∙ ap₂ (λ row x. set row r x) (c.clear.ensures ∙ ap (λ n. replicate n o.zero) c.requires.full) c.one.ensures in
-    (omega arith, zero-add _, rw first (walk_none g.K.Kind.laws (map m c.args.values.now) t r c.requires.known))
+    (zero-add _, rw first (walk_none g.K.Kind.laws (map m c.args.values.now) t r c.requires.known))
 
 -- the line of one turn
 line_is : (g : _) (c : goal.After-adjoint-in-loop-i-1 g) →
@@ -36,12 +36,12 @@ counted g c =
     let i = c.loop-i.i in
     let cost : backward_cost (line t (i - 1 - t.controls)) ≡ c.give_back-count.result =
     sym (c.give_back-count.ensures.cost ∙ ap backward_cost (line_is g c)) in
-    count_more t i (omega arith) (omega (arith, c.loop-i.invariant.0)) ∙ ap (λ k. sum_by backward_cost (take (i - 1 - t.controls) t.lines) + k) cost
+    count_more t i (omega arith) (omega arith) ∙ ap (λ k. sum_by backward_cost (take (i - 1 - t.controls) t.lines) + k) cost
 
 pub overflow_add-count : goal.overflow_add-count
 overflow_add-count g c =
     let t = g.S.Sheet.tape c.args.sheet.now in
-    omega (arith, counted g c, c.loop-i.invariant.1, count_small t (g.S.Sheet.keeps c.args.sheet.now) c.args.r)
+    omega (arith, counted g c, c.loop-i.invariant.0, count_small t (g.S.Sheet.keeps c.args.sheet.now) c.args.r)
 
 pub loop-i-preserved : goal.loop-i-preserved
 loop-i-preserved g c =
@@ -54,21 +54,15 @@ loop-i-preserved g c =
     let new = c.give_back-count.new.adjoint in
     let long : length old ≡ registers t = c.loop-i.auto.adjoint ∙ length-set _ _ _ ∙ c.clear.auto.row ∙ c.requires.full in
     let q_is : m c.index-adjoint-i.result ≡ at o (map m old) (i - 1) =
-    read m old (i - 1) _ o.zero (omega (arith, c.loop-i.invariant.0)) c.index-adjoint-i.is in
+    read m old (i - 1) _ o.zero (omega arith) c.index-adjoint-i.is in
     let gains : Gains o (map m old) (map m new) (λ row. o.times (at o (map m old) (i - 1)) (line_derivative o vs (line t (i - 1 - t.controls)) row)) =
     subst₂ (λ x l. Gains o (map m old) (map m new) (λ row. o.times x (line_derivative o vs l row))) q_is (line_is g c) c.give_back-count.ensures.gains in (
-      omega (arith, c.loop-i.invariant.0),
-      omega (arith, counted g c, c.loop-i.invariant.1),
+      omega (arith, counted g c, c.loop-i.invariant.0),
       walk_more g.K.Kind.laws vs t (g.S.Sheet.keeps c.args.sheet.now) _ i (map m old) (map m new)
-          (omega arith) (omega (arith, c.loop-i.invariant.0)) (simp length-map long) gains c.loop-i.invariant.2,
+          (omega arith) (omega arith) (simp length-map long) gains c.loop-i.invariant.1,
     )
 
-pub returns : goal.returns
-returns g c =
+pub returns-clause-transposes : goal.returns-clause-transposes
+returns-clause-transposes g c =
     let m = g.K.Kind.means in
-    let t = g.S.Sheet.tape c.args.sheet.now in
-    let none : c.loop-i.i - t.controls ≡ 0 = omega arith in
-    record {
-      transposes = walk_all g.K.Kind.laws (map m c.args.values.now) t _ c.loop-i.i (map m c.loop-i.adjoint) (omega arith) c.loop-i.invariant.2;
-      count = omega (arith, c.loop-i.invariant.1, ap (λ k. sum_by backward_cost (take k t.lines)) none);
-    }
+    walk_all g.K.Kind.laws (map m c.args.values.now) (g.S.Sheet.tape c.args.sheet.now) _ c.loop-i.i (map m c.loop-i.adjoint) (omega arith) c.loop-i.invariant.1

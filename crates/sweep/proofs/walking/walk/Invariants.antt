@@ -1,4 +1,4 @@
-use Rattle.std.proofs.Common.{◌≡◌, ◌+◌, ◌-◌, ◌≤◌, map, take, sum_by}
+use Rattle.std.proofs.Common.{◌≡◌, ◌+◌, ◌-◌, map, take, sum_by}
 use Rattle.tape.specs.Rows.{unit}
 use Rattle.tape.specs.Tapes.{registers}
 use Rattle.tape.specs.Values.{backward_cost, backward_count}
@@ -8,9 +8,5 @@ use Rattle.sweep.proofs.walking.walk.Given as goal
 abbrev pub invariant-loop-i : goal.invariant-loop-i
 invariant-loop-i g l =
     let t = g.S.Sheet.tape l.sheet in
-    (l.i ≤ l.r + 1)
-    × (l.count + sum_by backward_cost (take (l.i - t.controls) t.lines) ≡ backward_count t l.r)
+    (l.count + sum_by backward_cost (take (l.i - t.controls) t.lines) ≡ backward_count t l.r)
     × Walks g.K.Kind.ops (map g.K.Kind.means l.values) t (unit g.K.Kind.ops (registers t) l.r) l.i (map g.K.Kind.means l.adjoint)
-
-abbrev pub decreases-loop-i : goal.decreases-loop-i
-decreases-loop-i g l = l.i

@@ -11,9 +11,3 @@ returns c =
     let v = c.args.self.now in
     let there : refuse_line (view_tape v) c.args.j ≡ None = rw v.filled (grind (arith, nat_tests)) in
     accepted _ _ _ _ there (c.line_in.ensures ∙ sym (nth_line_in v.bytes.now v.count c.args.j c.if-j-self.false))
-
-pub line_in-requires : goal.line_in-requires
-line_in-requires c =
-    let v = c.args.self.now in
-    let there = v.within c.args.j c.if-j-self.false in
-    record { within = there; near = omega (arith, v.room) }
