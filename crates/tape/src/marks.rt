@@ -77,7 +77,7 @@ impl Table {
     pub fn waiting(&self) -> Option<usize>
         ensures { Waiting (table_tape self.now) self.now.stale result }
     {
-        let j = self.stale.iter().position(|mark| *mark)?;
+        let j = self.stale[..self.count].iter().position(|mark| *mark)?;
         Some(self.controls + j)
     }
 }
