@@ -29,10 +29,12 @@ pub(crate) fn read_field(bytes: &[u8], at: usize, width: usize) -> u64
 }
 
 // The 35 bits of a line, by one read of eight bytes where the file has as many.
+#[inline(always)]
 pub(crate) fn read_line(bytes: &[u8], at: usize) -> u64
     requires within { at + 35 ≤ 8 * length bytes.now }
     requires near { at + 35 < 2 ^ 16 }
-    ensures { result ≡ field bytes.now at 35 }
+    ensures value { result ≡ field bytes.now at 35 }
+    ensures small { result < 2 ^ 35 }
 {
     let from = at / 8;
     if from + 8 <= bytes.len() {

@@ -26,6 +26,7 @@ impl TryFrom<u64> for LineKind {
 
     ghost try_from_gives = { Decodes };
 
+    #[inline(always)]
     fn try_from(code: u64) -> Result<LineKind, LineFault> {
         match code {
             0 => Ok(LineKind::Constant),
