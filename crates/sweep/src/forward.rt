@@ -25,9 +25,9 @@ pub fn value<K: Kind, S: Sheet>(
     // `|` has no branch, so the proof has one path.
     let short = (controls.len() < n) | (row.len() < sheet.registers());
     sheet.check_query(r, short)?;
-    let part = &mut row[..r + 1];
-    load(&controls[..n], part);
-    sweep_lines(sheet, part);
+    let values = &mut row[..r + 1];
+    load(&controls[..n], values);
+    sweep_lines(sheet, values);
     Ok(entry(row, r))
 }
 
