@@ -63,7 +63,8 @@ impl<'a, S: Sheet> Question<'a, S> {
                 tangent: K::image(self.direction[i].0),
             };
         }
-        evaluate(self.sheet, row);
+        let registers = self.sheet.registers();
+        evaluate(self.sheet, &mut row[..registers]);
     }
 
     // Fills both working rows, the one in ticks and the one in sizes, unless the call is declined.

@@ -58,5 +58,5 @@ returns g c =
     paired_given _ _ (images_length k.ops.image t.controls _ c.requires.given) (images_length k.ops.image t.controls _ c.requires.directed) in
     let all : length (map (dual k.means) items) ≤ c.loop-i.i = simp length-map (omega arith) in
     let loaded : map (dual k.means) items ≡ images q k.ops = sym (take_all c.loop-i.i _ all) ∙ c.loop-i.invariant ∙ take_all c.loop-i.i (images q k.ops) (omega arith) in
-    evaluated (dual_operations k.ops) (dual k.means) t (images q k.ops) c.args.row.now items c.evaluate.new.row c.controls-n.result c.controls-n.ensures some images_is long
-    c.requires.full loaded c.evaluate.ensures.swept c.evaluate.ensures.later
+    evaluated (dual_operations k.ops) (dual k.means) t (images q k.ops) c.args.row.now items c.evaluate.new.row c.controls-n.result _ c.controls-n.ensures (omega arith) some images_is
+    long (omega arith) loaded c.evaluate.auto.row c.evaluate.ensures.swept
