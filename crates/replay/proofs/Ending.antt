@@ -26,9 +26,9 @@ use Rattle.replay.specs.Replays.{AnswersRun, Consistent}
 use Rattle.replay.specs.Parties.{FileReplied, SessionReplied, SheetReplied}
 
 module _ {K M : Type 0} (o : Operations M) (means : K → M) (s : State K) (valid : Valid s.tape) where
-  -- the controls copied out of a session in order
-  pub copied_controls : Good o means s → (out out' : List K) (r : Result (Unit {0}) Refusal) → length out ≡ s.tape.controls → length out' ≡ s.tape.controls → Shows s out r out' → map means out' ≡ given means s.tape s.row
-  copied_controls good out out' r long long' shows =
+  -- the controls copied out of a session in order, to a row that has room for them
+  pub copied_controls : Good o means s → (out out' : List K) (r : Result (Unit {0}) Refusal) → s.tape.controls ≤ length out → Shows s out r out' → given means s.tape out' ≡ given means s.tape s.row
+  copied_controls good out out' r long shows =
       let n = s.tape.controls in
       let fits = good.fits in
       let free : refuse_show s.tape (length s.row) (length out) ≡ None = grind (arith, nat_tests) in
@@ -37,7 +37,7 @@ module _ {K M : Type 0} (o : Operations M) (means : K → M) (s : State K) (vali
       let all : m ≡ n = omega arith in
       let first : take n (take m s.row ++ drop m out) ≡ take n s.row =
       take_at (take m s.row) (drop m out) n (length-take-le m s.row (omega arith) ∙ all) ∙ ap (λ k. take k s.row) all in
-      ap (map means) (sym (take_all n out' (omega (arith, long'))) ∙ ap (take n) is.1 ∙ first)
+      ap (map means) (ap (take n) is.1 ∙ first)
 
   -- a file saved in the longest file's room
   pub saved_file : (before after : List ℕ) (r : Result ℕ Refusal) (same : Type 0) → length before ≡ 4483 → Answered (refuse_save s.tape (length before)) r same (Saved s.tape before after)
@@ -52,15 +52,16 @@ module _ {K M : Type 0} (o : Operations M) (means : K → M) (s : State K) (vali
       go (Err e) h = let none = free in let why = why_declined (refuse_save s.tape (length before)) e same (Saved s.tape before after) h in let z : ◌≡◌ {A = ℕ} 0 1 = cc in absurd (omega arith)
 
   -- all that a report says, of a session in order
-  pub consistent : (q : Query K) (sheet : Tape) (out : Outcome K) (controls : List K)
+  pub consistent : (q : Query K) (sheet : Tape) (out : Outcome K) (controls row : List K)
       → (Good o means s → map means controls ≡ given means s.tape s.row) → length controls ≡ s.tape.controls
+      → (Good o means s → given means s.tape row ≡ given means s.tape s.row) → length row ≡ 128
       → Packed s.tape out.file.items
       → out.controls.items ≡ controls
       → SessionReplied o means s q (said means out.session)
       → FileReplied o means out.file.items controls q (exported means out.from_file)
-      → SheetReplied o means sheet controls q (said means out.on_sheet)
+      → SheetReplied o means sheet row q (said means out.on_sheet)
       → (room : ℕ) (b : Book M) → Keeps o means room b s → Consistent o means b q sheet out
-  consistent q sheet out controls copy count file_is controls_are session from_file on_sheet room b kept =
+  consistent q sheet out controls row copy count copy_row row_count file_is controls_are session from_file on_sheet room b kept =
       subst (λ c. Consistent o means c q sheet out) kept.entered own
     where
       t : Tape
@@ -78,14 +79,17 @@ module _ {K M : Type 0} (o : Operations M) (means : K → M) (s : State K) (vali
       means_t : tape_of file ≡ t
       means_t = reads_back t file valid file_is
 
-      enough : sheet ≡ t → sheet.controls ≤ length controls
-      enough is = subst (λ u. u.controls ≤ length controls) (sym is) (omega (arith, count))
+      few : t.controls ≤ 128
+      few = valid.few_controls
+
+      enough : sheet ≡ t → sheet.controls ≤ length row
+      enough is = subst (λ u. u.controls ≤ length row) (sym is) (omega (arith, few, row_count))
 
       own : Consistent o means (book o means s) q sheet out
       own = record {
         session = session kept.good;
         from_file = subst (λ cs. Replied o t cs means q (exported means out.from_file)) same (subst (λ u. Replied o u (given means u controls) means q (exported means out.from_file)) means_t (from_file (count ∙ ap (λ u. u.controls) (sym means_t)) none));
-        on_sheet = λ is. subst (λ cs. Replied o t cs means q (said means out.on_sheet)) same (subst (λ u. Replied o u (given means u controls) means q (said means out.on_sheet)) is (on_sheet (enough is)));
+        on_sheet = λ is. subst (λ cs. Replied o t cs means q (said means out.on_sheet)) (copy_row kept.good) (subst (λ u. Replied o u (given means u row) means q (said means out.on_sheet)) is (on_sheet (enough is)));
         controls = ap (map means) controls_are ∙ copy kept.good;
         file = file_is;
       }

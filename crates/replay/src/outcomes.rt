@@ -8,7 +8,8 @@ use std::alloc::AllocError;
 use tape::Refusal;
 
 // The final query as both parties answer it, with what the exporter was handed.
-#[derive(Drop)]
+// (A clone takes memory, and fails where there is none.)
+#[derive(Clone, Drop)]
 pub struct Outcome<K> {
     pub session: Result<Finding<K>, Refusal>,
     // the exporter's answer, from the saved file and the controls

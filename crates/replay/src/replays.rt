@@ -10,7 +10,7 @@ use crate::file_party::OnFile;
 use crate::outcomes::{Outcome, ReplayFault};
 use crate::parties::ask;
 use crate::queries::Query;
-use crate::rows::{LONGEST_FILE, Rows, zeros};
+use crate::rows::{LONGEST_FILE, MOST_CONTROLS, Rows, zeros};
 use crate::runs::make_all;
 use crate::sheet_party::OnSheet;
 use kind::Kind;
@@ -38,6 +38,16 @@ fn controls_of<K: Kind>(heap: Global, session: &Session<K>) -> Result<Vec<K>, Al
     Ok(controls)
 }
 
+// The same numbers at the front of a row of zeros that has a number for each control of any sheet.
+fn controls_for_any<K: Kind>(heap: Global, session: &Session<K>) -> Result<Vec<K>, AllocError>
+    ensures count { IfOk result (λ row. length row.items ≡ 128) }
+    ensures given { IfOk result (λ row. Good K.Kind.ops K.Kind.means (state session.now) → given K.Kind.means (state session.now).tape row.items ≡ given K.Kind.means (state session.now).tape (state session.now).row) }
+{
+    let mut row = zeros(heap, MOST_CONTROLS)?;
+    let _ = session.controls(row.as_mut_slice());
+    Ok(row)
+}
+
 // Asks both parties: the session, the exporter on the file saved now, and the exporter on a sheet, at the controls copied out now.
 fn report<K: Kind, S: Sheet>(
     heap: Global,
@@ -54,9 +64,11 @@ fn report<K: Kind, S: Sheet>(
         controls: &controls,
     };
     let from_file = ask(&mut on_file, query, Rows::new(heap)?);
+    // (a sheet of more controls than the session is answered with zeros for them)
+    let row = controls_for_any(heap, session)?;
     let mut on_sheet = OnSheet {
         sheet,
-        controls: &controls,
+        controls: &row,
     };
     let on_sheet = ask(&mut on_sheet, query, Rows::new(heap)?);
     let session = ask(session, query, Rows::new(heap)?);

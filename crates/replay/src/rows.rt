@@ -10,6 +10,9 @@ const LONGEST: usize = 1152;
 // The length of the longest packed file.
 pub(crate) const LONGEST_FILE: usize = 4483;
 
+// The most controls that a tape has.
+pub(crate) const MOST_CONTROLS: usize = 128;
+
 #[derive(Drop)]
 pub(crate) struct Rows<K> {
     pub(crate) row: Vec<K>,
