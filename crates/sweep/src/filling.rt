@@ -1,13 +1,11 @@
 // The sweep up the lines, and what stands in a row before it.
 ghost use Rattle.std.specs.Prelude.{◌≡◌, ◌<◌, ◌≤◌, map, length, take, drop};
 ghost use Rattle.kind.specs.Dual.{dual};
-ghost use Rattle.tape.specs.Lines.{Below};
 ghost use Rattle.tape.specs.Rows.{at};
 ghost use Rattle.tape.specs.Tapes.{line, registers};
 ghost use Rattle.tape.specs.Values.{applied};
 ghost use Rattle.sweep.specs.Forward.{Swept, paired};
 
-use crate::rows::entry;
 use kind::{Kind, Pair};
 use tape::{Line, Sheet};
 
@@ -20,19 +18,13 @@ pub(crate) fn line_of<S: Sheet>(sheet: &S, j: usize) -> Line
     sheet.line(j).unwrap()
 }
 
-// What a line comes to over a row that has the registers that it reads. (Not by `Line::apply`, whose two tests of the row's length
-// make a sweep take half as much time again.)
-fn apply<K: Kind>(line: Line, row: &[K]) -> K
-    requires { Below (length row.now) line }
-    ensures { K.Kind.means result ≡ applied K.Kind.ops (at K.Kind.ops (map K.Kind.means row.now)) line }
+// What line j, which there is, comes to over a row.
+#[inline(always)]
+fn line_value<K: Kind, S: Sheet>(sheet: &S, j: usize, row: &[K]) -> K
+    requires { j < length (S.Sheet.tape sheet.now).lines }
+    ensures { K.Kind.means result ≡ applied K.Kind.ops (at K.Kind.ops (map K.Kind.means row.now)) (line (S.Sheet.tape sheet.now) j) }
 {
-    match line {
-        Line::Constant(c) => K::image(c as i64),
-        Line::Add(a, b) => entry(row, a as usize).sum(entry(row, b as usize)),
-        Line::Subtract(a, b) => entry(row, a as usize).sum(entry(row, b as usize).opposite()),
-        Line::Multiply(a, b) => entry(row, a as usize).product(entry(row, b as usize)),
-        Line::Opposite(a) => entry(row, a as usize).opposite(),
-    }
+    line_of(sheet, j).apply(row)
 }
 
 // Works out each line whose register is in the row, going up; the controls stand in the row already.
@@ -43,7 +35,7 @@ pub(crate) fn sweep_lines<K: Kind, S: Sheet>(sheet: &S, row: &mut [K])
     let n = sheet.controls();
     // By register: an entry is worked out from those before it in the same row.
     for i in n..row.len() {
-        row[i] = apply(line_of(sheet, i - n), &row[..i]);
+        row[i] = line_value(sheet, i - n, &row[..i]);
     }
 }
 

@@ -16,9 +16,9 @@ loop-i-preserved g c =
     let i = c.loop-i.i in
     let row = c.loop-i.row in
     let long : length (map m row) ≡ length (map m c.args.row.now) = simp length-map c.loop-i.auto.row in
-    let x_is : m c.apply.result ≡ line_value o (line t (i - t.controls)) (take i (map m row)) =
-    c.apply.ensures ∙ ap₂ (line_value o) (c.line_of.ensures ∙ ap (λ n. line t (i - n)) c.controls-n.ensures) (sym (take-map m i row)) in
-    rw map-set (swept_more o t (map m c.args.row.now) (map m row) i (m c.apply.result) (simp length-map c.requires) long (omega arith)
+    let x_is : m c.line_value.result ≡ line_value o (line t (i - t.controls)) (take i (map m row)) =
+    c.line_value.ensures ∙ ap₂ (line_value o) (ap (λ n. line t (i - n)) c.controls-n.ensures) (sym (take-map m i row)) in
+    rw map-set (swept_more o t (map m c.args.row.now) (map m row) i (m c.line_value.result) (simp length-map c.requires) long (omega arith)
     (simp length-map c.loop-i-test.true) c.loop-i.invariant x_is)
 
 pub returns : goal.returns
