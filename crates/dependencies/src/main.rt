@@ -9,12 +9,11 @@ mod replaying;
 mod rig;
 
 use asking::{ENTRIES, ask_exporter, ask_session, make, saved};
-use export::ExportFault;
 use packed::View;
 use patterns::Dependence;
-use printing::{print_agreement, print_answer};
-use replay::Query;
-use replaying::replayed;
+use printing::{print_agreement, print_reply};
+use replay::{Query, Reply};
+use replaying::{blank, replayed};
 use rig::{CONTROLS, Edit, edits};
 use session::{Call, Opening, Session};
 use std::alloc::AllocError;
@@ -40,10 +39,10 @@ fn print_edit(
         print!(rt; ": refused {number}")?;
     }
     println!(rt; "")?;
-    let by_session = ask_session(session, edit.register, adjoint(rt)?);
-    let by_exporter = ask_exporter(session, edit.register, adjoint(rt)?);
-    print_answer(rt, "session", edit.register, &by_session)?;
-    print_answer(rt, "exporter", edit.register, &by_exporter)?;
+    let by_session = Reply::of(ask_session(session, edit.register, adjoint(rt)?));
+    let by_exporter = Reply::of(ask_exporter(session, edit.register, adjoint(rt)?));
+    print_reply(rt, "session", edit.register, &by_session)?;
+    print_reply(rt, "exporter", edit.register, &by_exporter)?;
     print_agreement(rt, &by_session, &by_exporter)
 }
 
@@ -55,17 +54,18 @@ fn print_replay(
 ) -> io::Result<()> {
     let register = 4;
     let query = Query::Gradient(register);
-    let Ok(out) = replayed(rt.alloc(), CONTROLS, rest, ROOM, calls, &query, sheet) else {
+    let mut out = blank();
+    let heap = rt.alloc();
+    let made = replayed(heap, CONTROLS, rest, ROOM, calls, &query, sheet, &mut out);
+    if made.is_err() {
         return println!(rt; "not replayed");
-    };
-    let by_session = out.session.map_err(ExportFault::Query);
-    let on_sheet = out.on_sheet.map_err(ExportFault::Query);
+    }
     println!(rt; "replay")?;
-    print_answer(rt, "session", register, &by_session)?;
-    print_answer(rt, "exporter on the file", register, &out.from_file)?;
-    print_agreement(rt, &by_session, &out.from_file)?;
-    print_answer(rt, "exporter on the view", register, &on_sheet)?;
-    print_agreement(rt, &by_session, &on_sheet)
+    print_reply(rt, "session", register, &out.session)?;
+    print_reply(rt, "exporter on the file", register, &out.from_file)?;
+    print_agreement(rt, &out.session, &out.from_file)?;
+    print_reply(rt, "exporter on the view", register, &out.on_sheet)?;
+    print_agreement(rt, &out.session, &out.on_sheet)
 }
 
 fn run(rt: &HostRuntime) -> io::Result<()> {

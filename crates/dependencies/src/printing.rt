@@ -1,8 +1,6 @@
 // Dependency patterns, printed and compared.
-use crate::asking::Answer;
 use crate::patterns::Dependence;
-use export::ExportFault;
-use replay::Finding;
+use replay::Reply;
 use std::io;
 
 fn print_pattern(rt: &HostRuntime, entries: &[Dependence]) -> io::Result<()> {
@@ -18,16 +16,16 @@ fn print_pattern(rt: &HostRuntime, entries: &[Dependence]) -> io::Result<()> {
     println!(rt; "")
 }
 
-pub fn print_answer(
+pub fn print_reply(
     rt: &HostRuntime,
     party: &str,
     register: usize,
-    answer: &Answer,
+    reply: &Reply<Dependence>,
 ) -> io::Result<()> {
     print!(rt; "  {party}: register {register} ")?;
-    match answer {
-        Ok(Finding::Gradient(_, entries, _)) => print_pattern(rt, entries.as_slice()),
-        Err(ExportFault::Query(refusal)) => {
+    match reply {
+        Reply::Gradient(_, entries, _) => print_pattern(rt, entries),
+        Reply::Declined(refusal) => {
             let number = refusal.number();
             println!(rt; "refused {number}")
         }
@@ -36,7 +34,11 @@ pub fn print_answer(
 }
 
 // The same pattern, or the same refusal.
-pub fn print_agreement(rt: &HostRuntime, one: &Answer, other: &Answer) -> io::Result<()> {
+pub fn print_agreement(
+    rt: &HostRuntime,
+    one: &Reply<Dependence>,
+    other: &Reply<Dependence>,
+) -> io::Result<()> {
     if one == other {
         println!(rt; "  they agree")
     } else {

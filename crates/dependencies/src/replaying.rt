@@ -3,7 +3,7 @@ ghost use Rattle.replay.specs.Replays.{Replayed};
 ghost use Rattle.dependencies.specs.Patterns.{depends, pattern_operations};
 
 use crate::patterns::Dependence;
-use replay::{Outcome, Query, ReplayFault};
+use replay::{Outcome, Query, ReplayFault, Reply};
 use session::Call;
 use std::alloc::Global;
 use tape::Sheet;
@@ -18,8 +18,22 @@ pub fn replayed<S: Sheet>(
     calls: &[Call<Dependence>],
     query: &Query<Dependence>,
     sheet: &S,
-) -> Result<Outcome<Dependence>, ReplayFault>
-    ensures { Replayed pattern_operations depends n rest.now room calls.now query.now (S.Sheet.tape sheet.now) result }
+    out: &mut Outcome<Dependence>,
+) -> Result<(), ReplayFault>
+    ensures { Replayed pattern_operations depends n rest.now room calls.now query.now (S.Sheet.tape sheet.now) out.old out.new result }
 {
-    replay::replay(heap, n, rest, room, calls, query, sheet)
+    replay::replay(heap, n, rest, room, calls, query, sheet, out)
+}
+
+// An outcome to write to.
+pub fn blank() -> Outcome<Dependence> {
+    let nothing = Reply::Value(Dependence(false));
+    Outcome {
+        session: nothing,
+        from_file: nothing,
+        on_sheet: nothing,
+        controls: [Dependence(false); 128],
+        file: [0; 4483],
+        length: 0,
+    }
 }

@@ -4,8 +4,7 @@ use crate::commands::{Command, Request, Step};
 use crate::declines::Fault;
 use crate::entries::Entry;
 use crate::numbers::Number;
-use export::ExportFault;
-use replay::{Outcome, Query, ReplayFault};
+use replay::{Outcome, Query, ReplayFault, Reply};
 use session::{Call, Session};
 use std::alloc::{AllocError, Global};
 
@@ -47,21 +46,36 @@ fn last_query<'e, K: Number>(entries: &'e [Entry<'_, K>]) -> Query<'e, K> {
     last
 }
 
+// An outcome to write to.
+pub(crate) fn blank<K: Number>() -> Outcome<K> {
+    let nothing = Reply::Value(K::zero());
+    Outcome {
+        session: nothing,
+        from_file: nothing,
+        on_sheet: nothing,
+        controls: [K::zero(); 128],
+        file: [0; 4483],
+        length: 0,
+    }
+}
+
 // Whether the replayed session, the exporter on its file and the exporter on the view all agree, and the run ended in the same.
-fn agrees<K: Number>(outcome: Outcome<K>, end: &End<K>) -> bool {
-    let same_end = outcome.controls == end.controls && outcome.file == end.file;
-    let by_session = outcome.session.map_err(ExportFault::Query);
-    let on_sheet = outcome.on_sheet.map_err(ExportFault::Query);
-    same_end && by_session == outcome.from_file && by_session == on_sheet
+fn agrees<K: Number>(outcome: &Outcome<K>, end: &End<K>) -> bool {
+    let controls = outcome.controls.get(..end.controls.len());
+    let file = outcome.file.get(..outcome.length);
+    let same_end = controls == Some(end.controls.as_slice()) && file == Some(end.file.as_slice());
+    same_end && outcome.session == outcome.from_file && outcome.session == outcome.on_sheet
 }
 
 // Makes the calls of a run that has come to its end in this session again on a new one, asks its last query of that session and of
-// the exporter, and answers whether all agree.
+// the exporter, and answers whether all agree. (The outcome to write to is handed down from where the kind is known: here the size
+// of a number is not.)
 pub fn replay_run<K: Number>(
     heap: Global,
     request: &Request<K>,
     entries: &[Entry<'_, K>],
     session: &Session<'_, K>,
+    outcome: &mut Outcome<K>,
 ) -> Result<bool, Fault> {
     let calls = calls_of(heap, entries)?;
     let query = last_query(entries);
@@ -71,8 +85,17 @@ pub fn replay_run<K: Number>(
     };
     let (n, rest, room) = (request.controls, request.rest.as_slice(), request.room);
     let view = packed::open(end.file.as_slice())?;
-    match replay::replay(heap, n, rest, room, calls.as_slice(), &query, &view) {
-        Ok(outcome) => Ok(agrees(outcome, &end)),
+    match replay::replay(
+        heap,
+        n,
+        rest,
+        room,
+        calls.as_slice(),
+        &query,
+        &view,
+        outcome,
+    ) {
+        Ok(()) => Ok(agrees(outcome, &end)),
         // (a run that was open here and is declined there differs; want of memory is no answer)
         Err(ReplayFault::Declined(_)) => Ok(false),
         Err(ReplayFault::Memory) => Err(Fault::Memory),

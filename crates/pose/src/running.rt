@@ -3,12 +3,13 @@ use crate::commands::{Choice, Command, Request};
 use crate::entries::{Entry, read_entries};
 use crate::numbers::Number;
 use crate::parsing::choice;
-use crate::replaying::replay_run;
+use crate::replaying::{blank, replay_run};
 use crate::rows::zeros;
 use crate::runner::Runner;
 use crate::script::{ScriptLine, read_lines};
 use crate::steps::check_request;
 use kind::{Residue, Size, Ticks};
+use replay::Outcome;
 use session::{Opening, Session};
 use std::alloc::{AllocError, Global};
 use std::io;
@@ -56,10 +57,11 @@ impl<'r> Runner<'r> {
         line: usize,
         request: &Request<K>,
         entries: &[Entry<'_, K>],
+        outcome: &mut Outcome<K>,
     ) -> io::Result<()> {
         let heap = self.rt.alloc();
         // (a session's file opens and its rows are long enough, so want of memory is all that can stop a replay)
-        let agreed = replay_run(heap, request, entries, session).map_err(|_| AllocError)?;
+        let agreed = replay_run(heap, request, entries, session, outcome).map_err(|_| AllocError)?;
         Ok(self.tally.count_run(line, agreed)?)
     }
 
@@ -69,6 +71,7 @@ impl<'r> Runner<'r> {
         line: usize,
         request: &Request<K>,
         entries: &[Entry<'_, K>],
+        outcome: &mut Outcome<K>,
     ) -> io::Result<()> {
         let mut row: Vec<K> = zeros(self.rt.alloc(), request.room)?;
         let rest = request.rest.as_slice();
@@ -77,41 +80,49 @@ impl<'r> Runner<'r> {
         };
         let mut session = Session::open(opening, rest, row.as_mut_slice());
         self.run_session(&mut session, entries)?;
-        self.end_run(&session, line, request, entries)
+        self.end_run(&session, line, request, entries, outcome)
     }
 
     // The commands from an `open` that is not declined to the next, or those before the first.
-    fn run_entries<K: Number>(&mut self, entries: &[Entry<'_, K>]) -> io::Result<()> {
+    fn run_entries<K: Number>(
+        &mut self,
+        entries: &[Entry<'_, K>],
+        outcome: &mut Outcome<K>,
+    ) -> io::Result<()> {
         let Some((first, after)) = entries.split_first() else {
             return Ok(());
         };
         self.run_alone(first)?;
         match &first.command {
-            Ok(Command::Open(request)) => self.run_request(first.line, request, after),
+            Ok(Command::Open(request)) => self.run_request(first.line, request, after, outcome),
             _ => self.run_without(after),
         }
     }
 
-    // The lines of one kind.
-    fn run_kind<K: Number>(&mut self, lines: &[ScriptLine<'_>]) -> io::Result<()> {
+    // The lines of one kind. Each run's replay writes to the outcome.
+    fn run_kind<K: Number>(
+        &mut self,
+        lines: &[ScriptLine<'_>],
+        outcome: &mut Outcome<K>,
+    ) -> io::Result<()> {
         let heap = self.rt.alloc();
         let entries: Vec<Entry<'_, K>> = read_entries(heap, lines, &mut self.room)?;
         let all = entries.as_slice();
         let mut from = 0;
         for (at, entry) in all.iter().enumerate() {
             if begins(heap, entry) {
-                self.run_entries(&all[from..at])?;
+                self.run_entries(&all[from..at], outcome)?;
                 from = at;
             }
         }
-        self.run_entries(&all[from..])
+        self.run_entries(&all[from..], outcome)
     }
 
     fn run_choice(&mut self, kind: Choice, lines: &[ScriptLine<'_>]) -> io::Result<()> {
         match kind {
-            Choice::Ticks => self.run_kind::<Ticks>(lines),
-            Choice::Residues => self.run_kind::<Residue>(lines),
-            Choice::Sizes => self.run_kind::<Size>(lines),
+            Choice::Ticks => self.run_kind::<Ticks>(lines, &mut blank()),
+            Choice::Residues => self.run_kind::<Residue>(lines, &mut blank()),
+            Choice::Sizes => self.run_kind::<Size>(lines, &mut blank()),
         }
     }
 }

@@ -1,3 +1,4 @@
 pub mod Ending
 pub mod Replying
 pub mod Sessions
+pub mod Telling

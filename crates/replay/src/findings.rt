@@ -1,6 +1,6 @@
 // What a query finds.
 
-#[derive(Clone, Drop, PartialEq, Eq)]
+#[derive(Drop, PartialEq, Eq)]
 pub enum Finding<K> {
     Value(K),
     // the value, the gradient with an entry for each control, and the backward operations

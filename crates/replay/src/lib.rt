@@ -8,6 +8,7 @@ pub mod outcomes;
 mod parties;
 pub mod queries;
 pub mod replays;
+pub mod replies;
 mod rows;
 mod runs;
 mod session_party;
@@ -17,6 +18,7 @@ pub use findings::Finding;
 pub use outcomes::{Outcome, ReplayFault};
 pub use queries::Query;
 pub use replays::replay;
+pub use replies::Reply;
 
 #[cfg(test)]
 mod tests;

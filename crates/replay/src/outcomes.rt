@@ -2,23 +2,24 @@
 ghost use Rattle.replay.specs.declared.outcomes.ReplayFault.TheVariants.{Declined as WasDeclined, Memory as NoMemory};
 ghost use Rattle.std.specs.Prelude.{◌≡◌};
 
-use crate::findings::Finding;
-use export::ExportFault;
+use crate::replies::Reply;
 use std::alloc::AllocError;
 use tape::Refusal;
 
 // The final query as both parties answer it, with what the exporter was handed.
-// (A clone takes memory, and fails where there is none.)
-#[derive(Clone, Drop)]
+#[derive(Clone, Copy)]
 pub struct Outcome<K> {
-    pub session: Result<Finding<K>, Refusal>,
-    // the exporter's answer, from the saved file and the controls
-    pub from_file: Result<Finding<K>, ExportFault>,
+    // the session's reply
+    pub session: Reply<K>,
+    // the exporter's, from the saved file and the controls
+    pub from_file: Reply<K>,
     // the exporter's, over the sheet that the caller brought
-    pub on_sheet: Result<Finding<K>, Refusal>,
-    // the numbers of the controls, copied out
-    pub controls: Vec<K>,
-    pub file: Vec<u8>,
+    pub on_sheet: Reply<K>,
+    // the numbers of the controls, copied out, in the first entries with zeros after them
+    pub controls: [K; 128],
+    // the saved file, in the first bytes with zeros after them
+    pub file: [u8; 4483],
+    pub length: usize,
 }
 
 // Why there is no outcome.

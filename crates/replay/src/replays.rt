@@ -1,6 +1,6 @@
 // A run replayed, and both parties asked.
-ghost use Rattle.std.specs.Prelude.{◌≡◌, length, map, IfOk};
-ghost use Rattle.packed.specs.Formats.{Packed};
+ghost use Rattle.std.specs.Prelude.{◌≡◌, length, map, IfOk, MatchResult};
+ghost use Rattle.packed.specs.Writing.{Saved};
 ghost use Rattle.session.specs.Runs.{Good};
 ghost use Rattle.session.specs.States.{state};
 ghost use Rattle.sweep.specs.Forward.{given};
@@ -10,22 +10,22 @@ use crate::file_party::OnFile;
 use crate::outcomes::{Outcome, ReplayFault};
 use crate::parties::ask;
 use crate::queries::Query;
-use crate::rows::{LONGEST_FILE, MOST_CONTROLS, Rows, zeros};
+use crate::replies::Reply;
+use crate::rows::{LONGEST_FILE, MOST_CONTROLS, Rows, front, zeros};
 use crate::runs::make_all;
 use crate::sheet_party::OnSheet;
+use export::ExportFault;
 use kind::Kind;
 use session::{Call, Opening, Session};
 use std::alloc::{AllocError, Global};
 use tape::Sheet;
 
-// The file of the session's tape, saved now.
-fn saved<K: Kind>(heap: Global, session: &Session<K>) -> Result<Vec<u8>, AllocError>
-    ensures { IfOk result (λ file. Packed (state session.now).tape file.items) }
+// The file of the session's tape, saved now. Every tape's file has room in 4,483 bytes.
+fn save_file<K: Kind>(session: &Session<K>, file: &mut [u8]) -> usize
+    requires { length file.old ≡ 4483 }
+    ensures { Saved (state session.now).tape file.old file.new result }
 {
-    let mut file = vec![in heap; 0; LONGEST_FILE]?;
-    let length = session.save(file.as_mut_slice()).unwrap_or(0);
-    file.truncate(length);
-    Ok(file)
+    session.save(file).unwrap_or(0)
 }
 
 // The numbers of the controls, copied out now.
@@ -54,13 +54,15 @@ fn report<K: Kind, S: Sheet>(
     session: &mut Session<K>,
     query: &Query<K>,
     sheet: &S,
-) -> Result<Outcome<K>, AllocError>
-    ensures { IfOk result (λ out. Reported K.Kind.ops K.Kind.means (state session.old) query.now (S.Sheet.tape sheet.now) out) }
+    out: &mut Outcome<K>,
+) -> Result<(), AllocError>
+    ensures { MatchResult result (λ _. Reported K.Kind.ops K.Kind.means (state session.old) query.now (S.Sheet.tape sheet.now) out.new) (λ _. out.new ≡ out.old) }
 {
-    let file = saved(heap, session)?;
+    let mut file = [0; LONGEST_FILE];
+    let length = save_file(session, &mut file);
     let controls = controls_of(heap, session)?;
     let mut on_file = OnFile {
-        file: &file,
+        file: &file[..length],
         controls: &controls,
     };
     let from_file = ask(&mut on_file, query, Rows::new(heap)?);
@@ -71,18 +73,21 @@ fn report<K: Kind, S: Sheet>(
         controls: &row,
     };
     let on_sheet = ask(&mut on_sheet, query, Rows::new(heap)?);
-    let session = ask(session, query, Rows::new(heap)?);
-    Ok(Outcome {
-        session,
-        from_file,
-        on_sheet,
-        controls,
+    let by_session = ask(session, query, Rows::new(heap)?);
+    *out = Outcome {
+        session: Reply::of(by_session.map_err(ExportFault::Query)),
+        from_file: Reply::of(from_file),
+        on_sheet: Reply::of(on_sheet.map_err(ExportFault::Query)),
+        controls: front(&controls),
         file,
-    })
+        length,
+    };
+    Ok(())
 }
 
 // Opens a session with n controls at the rest row and so much room in its register row, makes every call, and asks both parties
-// the query. Whatever the calls were, the session and the exporter answer alike.
+// the query. Whatever the calls were, the session and the exporter answer alike. (The outcome is written to the caller's, since
+// the size of a kind's number is not known here.)
 pub fn replay<K: Kind, S: Sheet>(
     heap: Global,
     n: usize,
@@ -91,12 +96,13 @@ pub fn replay<K: Kind, S: Sheet>(
     calls: &[Call<K>],
     query: &Query<K>,
     sheet: &S,
-) -> Result<Outcome<K>, ReplayFault>
-    ensures { Replayed K.Kind.ops K.Kind.means n rest.now room calls.now query.now (S.Sheet.tape sheet.now) result }
+    out: &mut Outcome<K>,
+) -> Result<(), ReplayFault>
+    ensures { Replayed K.Kind.ops K.Kind.means n rest.now room calls.now query.now (S.Sheet.tape sheet.now) out.old out.new result }
 {
     let mut row = zeros(heap, room)?;
     let opening = Opening::new(n, rest, row.as_slice())?;
     let mut session = Session::open(opening, rest, row.as_mut_slice());
     make_all(heap, &mut session, calls)?;
-    Ok(report(heap, &mut session, query, sheet)?)
+    Ok(report(heap, &mut session, query, sheet, out)?)
 }

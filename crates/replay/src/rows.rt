@@ -1,4 +1,5 @@
 // The rows that queries work in.
+ghost use Rattle.replay.specs.Replies.{Front};
 ghost use Rattle.std.specs.Prelude.{◌≡◌, IfOk, vec_len};
 
 use kind::{Kind, Pair};
@@ -40,4 +41,14 @@ pub(crate) fn zeros<K: Kind>(heap: Global, length: usize) -> Result<Vec<K>, Allo
     ensures { IfOk result (λ row. vec_len row ≡ length) }
 {
     vec![in heap; K::zero(); length]
+}
+
+// The entries of a row, the first 128 if it has more, and zeros after them.
+pub(crate) fn front<K: Kind>(row: &[K]) -> [K; 128]
+    ensures { Front K.Kind.ops K.Kind.means row.now result }
+{
+    let mut entries = [K::zero(); MOST_CONTROLS];
+    let both = row.len().min(MOST_CONTROLS);
+    entries[..both].copy_from_slice(&row[..both]);
+    entries
 }

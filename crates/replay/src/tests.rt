@@ -1,16 +1,38 @@
 use super::*;
-use export::ExportFault;
 use kind::Ticks;
 use session::Call;
 use std::test::Fail;
-use tape::Line;
+use tape::{Line, Refusal};
 
 // Three controls, `multiply 0 1`, `multiply 3 2`.
 const TWO_PRODUCTS: [u8; 12] = [
     0x03, 0x00, 0x4C, 0x00, 0x00, 0x00, 0x05, 0x80, 0x01, 0x80, 0x01, 0x00,
 ];
 
-// 2 × 3 × 4 is 24, and its gradient 12, 8, 6. A declined call changes nothing, and a clone of the outcome holds the same.
+// An outcome to write to.
+fn blank() -> Outcome<Ticks> {
+    let nothing = Reply::Value(Ticks(0));
+    Outcome {
+        session: nothing,
+        from_file: nothing,
+        on_sheet: nothing,
+        controls: [Ticks(0); 128],
+        file: [0; 4483],
+        length: 0,
+    }
+}
+
+// The numbers, and zeros after them.
+fn row(numbers: [i64; 3]) -> [Ticks; 128] {
+    let mut entries = [Ticks(0); 128];
+    for (i, number) in numbers.iter().enumerate() {
+        entries[i] = Ticks(*number);
+    }
+    entries
+}
+
+// 2 × 3 × 4 is 24, and its gradient 12, 8, 6. A declined call changes nothing, and a copy of the outcome stays as it was when the
+// outcome is written anew; a run that is declined writes nothing.
 #[test]
 fn all_answer_alike(rt: HostRuntime) -> Result<(), Fail> {
     let Ok(view) = packed::open(&TWO_PRODUCTS) else {
@@ -24,24 +46,24 @@ fn all_answer_alike(rt: HostRuntime) -> Result<(), Fail> {
     ];
     let rest = [Ticks(5), Ticks(3), Ticks(4)];
     let query = Query::Gradient(4);
-    let Ok(out) = replay(rt.alloc(), 3, &rest, 8, &calls, &query, &view) else {
-        return Err(Fail::new("no outcome"));
-    };
-    assert!(rt; out.file.as_slice() == TWO_PRODUCTS.as_slice());
-    assert!(rt; out.controls.as_slice() == [Ticks(2), Ticks(3), Ticks(4)].as_slice());
-    let Ok(Finding::Gradient(value, entries, operations)) = &out.session else {
-        return Err(Fail::new("no gradient"));
-    };
-    assert_eq!(rt; (value.0, *operations), (24, 8));
-    assert!(rt; entries.as_slice() == [Ticks(12), Ticks(8), Ticks(6)].as_slice());
-    let copy = out.clone()?;
-    assert!(rt; copy.session == out.session);
-    assert!(rt; copy.from_file == out.from_file);
-    assert!(rt; copy.on_sheet == out.on_sheet);
-    assert!(rt; copy.controls == out.controls);
-    assert!(rt; copy.file == out.file);
+    let mut out = blank();
+    assert!(rt; replay(rt.alloc(), 3, &rest, 8, &calls, &query, &view, &mut out).is_ok());
+    assert_eq!(rt; out.length, 12);
+    let (file, rest_of_file) = out.file.split_at(12);
+    assert!(rt; file == TWO_PRODUCTS.as_slice());
+    assert!(rt; rest_of_file.iter().all(|byte| *byte == 0));
+    assert!(rt; out.controls == row([2, 3, 4]));
+    assert!(rt; out.session == Reply::Gradient(Ticks(24), row([12, 8, 6]), 8));
+    assert!(rt; out.session == out.from_file);
     assert!(rt; out.session == out.on_sheet);
-    assert!(rt; out.session.map_err(ExportFault::Query) == out.from_file);
+    let copy = out;
+    let query = Query::Value(3);
+    assert!(rt; replay(rt.alloc(), 3, &rest, 8, &calls, &query, &view, &mut out).is_ok());
+    assert!(rt; out.session == Reply::Value(Ticks(6)));
+    assert!(rt; copy.session == Reply::Gradient(Ticks(24), row([12, 8, 6]), 8));
+    let declined = replay(rt.alloc(), 3, &rest, 2, &calls, &query, &view, &mut out);
+    assert!(rt; declined == Err(ReplayFault::Declined(Refusal::Short)));
+    assert!(rt; out.session == Reply::Value(Ticks(6)));
     Ok(())
 }
 
@@ -54,16 +76,11 @@ fn zeros_stand_for_more_controls(rt: HostRuntime) -> Result<(), Fail> {
     };
     let rest = [Ticks(2), Ticks(3)];
     let query = Query::Gradient(4);
-    let Ok(out) = replay(rt.alloc(), 2, &rest, 8, &[], &query, &view) else {
-        return Err(Fail::new("no outcome"));
-    };
-    assert!(rt; out.controls.as_slice() == rest.as_slice());
-    assert!(rt; out.session.is_err());
-    assert!(rt; out.from_file.is_err());
-    let Ok(Finding::Gradient(value, entries, operations)) = &out.on_sheet else {
-        return Err(Fail::new("no gradient"));
-    };
-    assert_eq!(rt; (value.0, *operations), (0, 8));
-    assert!(rt; entries.as_slice() == [Ticks(0), Ticks(0), Ticks(6)].as_slice());
+    let mut out = blank();
+    assert!(rt; replay(rt.alloc(), 2, &rest, 8, &[], &query, &view, &mut out).is_ok());
+    assert!(rt; out.controls == row([2, 3, 0]));
+    assert!(rt; out.session == Reply::Declined(Refusal::Unknown(4)));
+    assert!(rt; out.from_file == Reply::Declined(Refusal::Unknown(4)));
+    assert!(rt; out.on_sheet == Reply::Gradient(Ticks(0), row([0, 0, 6]), 8));
     Ok(())
 }
