@@ -86,8 +86,8 @@ fn report<K: Kind, S: Sheet>(
 }
 
 // Opens a session with n controls at the rest row and so much room in its register row, makes every call, and asks both parties
-// the query. Whatever the calls were, the session and the exporter answer alike. (The outcome is written to the caller's, since
-// the size of a kind's number is not known here.)
+// the query. Whatever the calls were, the session and the exporter answer alike. (The outcome is lent: code that is generic in the
+// kind cannot show that one fits in memory, but can hand on one that it was handed.)
 pub fn replay<K: Kind, S: Sheet>(
     heap: Global,
     n: usize,
